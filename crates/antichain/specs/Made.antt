@@ -8,12 +8,14 @@ use Rattle.auto_core.specs.Pairs.{set_after}
 use Rattle.set_rows.specs.Sets.{IsRow, IsSubset, IsCovered}
 use Rattle.antichain.specs.declared.sets.Made.{Made}
 
--- The rows are those of what the letter leads to from the set, and of what S relates to a member of that.
+-- The rows are those of what the letter leads to from the set, and of what S relates to a member of
+-- that.
 pub record IsMade (B : Automaton) (S : List (ℕ × ℕ)) (m : Made) : Type 0 where
   pub row : IsRow B.states m.members.items
   pub below : IsRow B.states m.below.items
   pub members : (q : ℕ) → HasBit m.members.items q ↔ set_after B (HasBit m.from.items) m.label q
-  pub covering : (other : List ℕ) → IsSubset other m.below.items ↔ IsCovered (Holds S) other m.members.items
+  pub covering : (other : List ℕ)
+      → IsSubset other m.below.items ↔ IsCovered (Holds S) other m.members.items
 
 -- All that is remembered is so.
 abbrev pub AreMade : Automaton → List (ℕ × ℕ) → List Made → Type 0

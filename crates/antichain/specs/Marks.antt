@@ -27,6 +27,8 @@ IsHeldMark S f h flag Live = flag ≡ true
 IsHeldMark S f h flag (Under j) = (flag ≡ false) × IsCovererOf S f h j
 
 -- The first so many elements have the origins and the marks of the kept ones.
-pub record AreMarked (S : List (ℕ × ℕ)) (f : Family) (count : ℕ) (elements : List Element) : Type 0 where
+pub record AreMarked (S : List (ℕ × ℕ)) (f : Family) (count : ℕ)
+    (elements : List Element) : Type 0 where
   pub size : length elements ≡ count
-  pub each : (i : ℕ) (m : Element) (h : Held) → At elements i m → At f.held.items i h → (m.origin ≡ h.origin) × IsHeldMark S f h (slice_index_or f.live.items i false) m.mark
+  pub each : (i : ℕ) (m : Element) (h : Held) → At elements i m → At f.held.items i h
+      → (m.origin ≡ h.origin) × IsHeldMark S f h (slice_index_or f.live.items i false) m.mark

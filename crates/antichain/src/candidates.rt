@@ -19,7 +19,10 @@ use std::alloc::Global;
 pub(crate) fn below(alloc: Global, order: &Rel, members: &[u64]) -> Result<Vec<u64>, Memory>
     requires { IsRow order.now.size members.now }
     ensures row { IfOk result (λ below. IsRow order.now.size below.items) }
-    ensures covering { IfOk result (λ below. (other : List ℕ) → IsSubset other below.items ↔ IsCovered (Holds order.now.pairs) other members.now) }
+    ensures covering { IfOk
+        result (λ below.
+        (other : List ℕ)
+        → IsSubset other below.items ↔ IsCovered (Holds order.now.pairs) other members.now) }
 {
     let mut below = vec![in alloc; 0; rows::words_for(order.size())]?;
     write_below(order, members, &mut below);
@@ -77,7 +80,10 @@ pub(crate) fn next_candidate(
     requires row { IsRow second.now.states from.now.members.items }
     requires sets { AreMade second.now order.now.pairs sets.old.made.items }
     ensures sets { IfOk result (λ _. AreMade second.now order.now.pairs sets.new.made.items) }
-    ensures candidate { IfOk result (λ h. (x : Entry) → IsKept second.now order.now.pairs from.now x → IsKept second.now order.now.pairs h (next_entry first.now element x t)) }
+    ensures candidate { IfOk
+        result (λ h.
+        (x : Entry) → IsKept second.now order.now.pairs from.now x
+        → IsKept second.now order.now.pairs h (next_entry first.now element x t)) }
 {
     let step = first.transitions()[t as usize];
     let number = sets.after(alloc, second, order, step.label, &from.members)?;

@@ -40,8 +40,11 @@ fn coverer(order: &Rel, family: &Family, of: &Held) -> u32
 /// The elements with their marks.
 fn elements(alloc: Global, order: &Rel, family: &Family) -> Result<List<Element>, Memory>
     requires fits { FitsTogether order.now.size order.now.pairs family.now }
-    requires state { (i : ℕ) (h : Held) → At family.now.held.items i h → h.state < length family.now.by_state.items }
-    requires some { (i : ℕ) (h : Held) → At family.now.held.items i h → slice_index_or family.now.live.items i false ≡ false → HasCoverer order.now.pairs family.now h }
+    requires state { (i : ℕ) (h : Held) → At family.now.held.items i h
+        → h.state < length family.now.by_state.items }
+    requires some { (i : ℕ) (h : Held) → At family.now.held.items i h
+        → slice_index_or family.now.live.items i false ≡ false
+        → HasCoverer order.now.pairs family.now h }
     ensures { IfOk result (AreMarked order.now.pairs family.now (length family.now.held.items)) }
 {
     let mut elements = List::new(alloc);
@@ -72,8 +75,11 @@ fn cover(
     requires greatest { IsGreatestForward second.now 1 order.now.pairs }
     requires order_size { order.now.size ≡ second.now.states }
     requires whole { IsWhole first.now second.now order.now.pairs family.now }
-    requires some { HasSubsumer (pair_rules first.now second.now order.now.pairs) (entries_held first.now family.now) (start_entry first.now) }
-    ensures { IfOk result (AreLeastSubsumers (pair_rules first.now second.now order.now.pairs) (entries_held first.now family.now) (start_entry first.now ∷ [])) }
+    requires some { HasSubsumer (pair_rules first.now second.now order.now.pairs)
+        (entries_held first.now family.now) (start_entry first.now) }
+    ensures { IfOk result
+        (AreLeastSubsumers (pair_rules first.now second.now order.now.pairs)
+        (entries_held first.now family.now) (start_entry first.now ∷ [])) }
 {
     let start = start_candidate(alloc, first, second, order)?;
     let mut cover = List::new(alloc);
@@ -100,7 +106,9 @@ fn step_line(
         → HasSubsumer (pair_rules first.now second.now order.now.pairs) (entries_held first.now family.now) (next_entry first.now element x t) }
     requires sets { AreMade second.now order.now.pairs sets.old.made.items }
     ensures sets { IfOk result (λ _. AreMade second.now order.now.pairs sets.new.made.items) }
-    ensures step { IfOk result (IsStepOf (pair_rules first.now second.now order.now.pairs) (entries_held first.now family.now)) }
+    ensures step { IfOk result
+        (IsStepOf (pair_rules first.now second.now order.now.pairs)
+        (entries_held first.now family.now)) }
     ensures element { IfOk result (λ line. line.element ≡ element) }
 {
     let from = &family.held[element as usize];
@@ -129,8 +137,16 @@ fn steps(
     requires some { (e t : ℕ) (x : Entry) → slice_index_or family.now.live.items e false ≡ true → At (entries_held first.now family.now) e x → t < length first.now.transitions
         → (trans_at first.now t).source ≡ x.arc.to
         → HasSubsumer (pair_rules first.now second.now order.now.pairs) (entries_held first.now family.now) (next_entry first.now e x t) }
-    ensures lines { IfOk result (λ steps. map (λ (l : StepLine). l.element) steps ≡ filter (λ e. slice_index_or family.now.live.items e false) (range_with_len 0 (length family.now.held.items))) }
-    ensures each { IfOk result (λ steps. (k : ℕ) (l : StepLine) → At steps k l → IsStepOf (pair_rules first.now second.now order.now.pairs) (entries_held first.now family.now) l) }
+    ensures lines { IfOk
+        result (λ steps.
+        map (λ (l : StepLine). l.element) steps
+        ≡ filter (λ e. slice_index_or family.now.live.items e false)
+        (range_with_len 0 (length family.now.held.items))) }
+    ensures each { IfOk
+        result (λ steps.
+        (k : ℕ) (l : StepLine) → At steps k l
+        → IsStepOf (pair_rules first.now second.now order.now.pairs)
+        (entries_held first.now family.now) l) }
 {
     let mut sets = Sets::new(alloc)?;
     let mut steps = List::new(alloc);
@@ -142,7 +158,8 @@ fn steps(
     Ok(steps)
 }
 
-/// The elements with their marks, and the least live ones that subsume the start and the extensions.
+/// The elements with their marks, and the least live ones that subsume the start and the
+/// extensions.
 pub(crate) fn closure(
     alloc: Global,
     first: &Auto,
@@ -155,9 +172,13 @@ pub(crate) fn closure(
     requires greatest { IsGreatestForward second.now 1 order.now.pairs }
     requires order_size { order.now.size ≡ second.now.states }
     requires whole { IsWhole first.now second.now order.now.pairs family.now }
-    requires closed { (limit : ℕ) × PairSearchEnds first.now second.now order.now.pairs limit (Closed (entries_held first.now family.now)) }
+    requires closed { (limit : ℕ)
+        × PairSearchEnds first.now second.now order.now.pairs limit
+        (Closed (entries_held first.now family.now)) }
     requires few { length family.now.held.items < 2 ^ 32 }
-    ensures { IfOk result (IsEvidenceOf (pair_rules first.now second.now order.now.pairs) (entries_held first.now family.now)) }
+    ensures { IfOk result
+        (IsEvidenceOf (pair_rules first.now second.now order.now.pairs)
+        (entries_held first.now family.now)) }
 {
     Ok(Closure {
         elements: elements(alloc, order, family)?,

@@ -10,8 +10,8 @@ use auto_core::Memory;
 use bit_rel::Rel;
 use std::alloc::Global;
 
-/// The elements in the order in which they entered, whether each is live, and for each state of the first automaton the numbers of
-/// the live elements that have it.
+/// The elements in the order in which they entered, whether each is live, and for each state of the
+/// first automaton the numbers of the live elements that have it.
 #[derive(Debug, Drop)]
 pub(crate) struct Family {
     pub(crate) held: Vec<Held>,

@@ -1,5 +1,5 @@
-//! The search for a closed set of pairs of a state and a set of states: whether an automaton accepts each word that another
-//! accepts, with the evidence.
+//! The search for a closed set of pairs of a state and a set of states: whether an automaton
+//! accepts each word that another accepts, with the evidence.
 #![tactic(auto)]
 
 mod candidates;

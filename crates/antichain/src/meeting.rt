@@ -12,7 +12,8 @@ use std::alloc::Global;
 
 /// Tells whether no row with the first word is inside one with the other.
 fn misses(head: u64, bound: u64) -> bool
-    ensures { result ≡ true → (row other : List ℕ) → head ≡ slice_index_or row 0 0 → bound ≡ slice_index_or other 0 0 → IsSubset row other → ⊥ }
+    ensures { result ≡ true → (row other : List ℕ) → head ≡ slice_index_or row 0 0
+        → bound ≡ slice_index_or other 0 0 → IsSubset row other → ⊥ }
 {
     if head & !bound != 0 {
         return true;
@@ -20,12 +21,14 @@ fn misses(head: u64, bound: u64) -> bool
     false
 }
 
-/// Tells whether the first element subsumes the second: it has the same state, and its members are below those of the second.
+/// Tells whether the first element subsumes the second: it has the same state, and its members are
+/// below those of the second.
 fn subsumes(x: &Held, y: &Held) -> bool
     requires len { length x.now.members.items ≡ length y.now.below.items }
     requires head { x.now.head ≡ slice_index_or x.now.members.items 0 0 }
     requires below_head { y.now.below_head ≡ slice_index_or y.now.below.items 0 0 }
-    ensures { IsTrue result ↔ ((x.now.state ≡ y.now.state) × IsSubset x.now.members.items y.now.below.items) }
+    ensures { IsTrue result
+        ↔ ((x.now.state ≡ y.now.state) × IsSubset x.now.members.items y.now.below.items) }
 {
     if misses(x.head, y.below_head) {
         return false;
@@ -63,7 +66,8 @@ pub(crate) fn drop_subsumed(
     requires held { ArePrepared order.now.size order.now.pairs held.now }
     requires new { IsPrepared order.now.size order.now.pairs new.now }
     requires flags { vec_len live.old ≡ length held.now }
-    ensures { AreDropped order.now.pairs held.now among.now (held_pair new.now) live.old.items live.new.items }
+    ensures { AreDropped order.now.pairs held.now among.now (held_pair new.now) live.old.items
+        live.new.items }
 {
     for number in among {
         let element = &held[*number as usize];
@@ -76,7 +80,8 @@ pub(crate) fn drop_subsumed(
 /// Those of these elements that are live.
 pub(crate) fn still_live(alloc: Global, among: &[u32], live: &[bool]) -> Result<Vec<u32>, Memory>
     requires { AreThere among.now (length live.now) }
-    ensures { IfOk result (λ kept. kept.items ≡ filter (λ j. slice_index_or live.now j false) among.now) }
+    ensures { IfOk
+        result (λ kept. kept.items ≡ filter (λ j. slice_index_or live.now j false) among.now) }
 {
     let mut kept = Vec::new(alloc);
     for number in among {

@@ -14,8 +14,9 @@ pub enum WordOutcome {
     Limit(List<Origin>),
 }
 
-/// An element as it is kept: where it comes from, its state, its set as a row of bits, the states that the order relates to a
-/// member of it, and the first word of both rows, which settles most comparisons.
+/// An element as it is kept: where it comes from, its state, its set as a row of bits, the states
+/// that the order relates to a member of it, and the first word of both rows, which settles most
+/// comparisons.
 #[derive(Debug, Drop)]
 pub(crate) struct Held {
     pub(crate) origin: Origin,

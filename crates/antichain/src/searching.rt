@@ -25,8 +25,9 @@ fn origins_of(alloc: Global, held: &[Held]) -> Result<List<Origin>, Memory>
     Ok(origins)
 }
 
-/// Searches for a closed set of pairs of a state of the first automaton and a set of states of the second, with at most so many
-/// elements. The order is the greatest forward relation at lookahead 1 of the second automaton.
+/// Searches for a closed set of pairs of a state of the first automaton and a set of states of the
+/// second, with at most so many elements. The order is the greatest forward relation at lookahead 1
+/// of the second automaton.
 pub fn search(
     alloc: Global,
     first: &Auto,

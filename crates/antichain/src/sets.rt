@@ -18,7 +18,8 @@ const PLACES: usize = 4096;
 /// How many sets are remembered before all are forgotten.
 const MOST: usize = 16384;
 
-/// What a letter leads to from a set: the members, and the states that the order relates to one of them.
+/// What a letter leads to from a set: the members, and the states that the order relates to one of
+/// them.
 #[derive(Debug, Drop)]
 pub(crate) struct Made {
     pub(crate) from: Vec<u64>,

@@ -33,9 +33,12 @@ fn admit(
     requires greatest { IsGreatestForward second.now 1 order.now.pairs }
     requires order_size { order.now.size ≡ second.now.states }
     requires whole { IsWhole first.now second.now order.now.pairs family.old }
-    requires candidate { IsCandidate first.now second.now order.now.pairs (entries_held first.now family.old) new }
+    requires candidate { IsCandidate first.now second.now order.now.pairs
+        (entries_held first.now family.old) new }
     requires few { length family.old.held.items ≤ limit }
-    requires unmet { HasNoSubsumer (pair_rules first.now second.now order.now.pairs) (entries_held first.now family.old) (entry_of first.now (entries_held first.now family.old) new.origin) }
+    requires unmet { HasNoSubsumer (pair_rules first.now second.now order.now.pairs)
+        (entries_held first.now family.old)
+        (entry_of first.now (entries_held first.now family.old) new.origin) }
     ensures { IfOk result (λ fate. (cs : List Entry) (turn : ℕ) → HasCome first.now second.now order.now.pairs limit family.old family.new fate
         (entry_of first.now (entries_held first.now family.old) new.origin ∷ cs) cs turn turn) }
 {
@@ -66,7 +69,8 @@ fn consider(
     requires greatest { IsGreatestForward second.now 1 order.now.pairs }
     requires order_size { order.now.size ≡ second.now.states }
     requires whole { IsWhole first.now second.now order.now.pairs family.old }
-    requires candidate { IsCandidate first.now second.now order.now.pairs (entries_held first.now family.old) new }
+    requires candidate { IsCandidate first.now second.now order.now.pairs
+        (entries_held first.now family.old) new }
     requires few { length family.old.held.items ≤ limit }
     ensures { IfOk result (λ fate. (cs : List Entry) (turn : ℕ) → HasCome first.now second.now order.now.pairs limit family.old family.new fate
         (entry_of first.now (entries_held first.now family.old) new.origin ∷ cs) cs turn turn) }
@@ -99,8 +103,8 @@ fn try_start(
     consider(alloc, first, second, order, limit, new, family)
 }
 
-/// The turn of the element: if it is live, its extensions come in order, until the search ends. They all come, even if one of them
-/// drops the element.
+/// The turn of the element: if it is live, its extensions come in order, until the search ends.
+/// They all come, even if one of them drops the element.
 fn try_turn(
     alloc: Global,
     first: &Auto,
@@ -120,7 +124,10 @@ fn try_turn(
     requires few { length family.old.held.items ≤ limit }
     requires sets { AreMade second.now order.now.pairs sets.old.made.items }
     ensures sets { IfOk result (λ _. AreMade second.now order.now.pairs sets.new.made.items) }
-    ensures come { IfOk result (λ fate. HasCome first.now second.now order.now.pairs limit family.old family.new fate [] [] turn (turn + 1)) }
+    ensures come { IfOk
+        result (λ fate.
+        HasCome first.now second.now order.now.pairs limit family.old family.new fate [] [] turn
+        (turn + 1)) }
 {
     if !family.live[turn as usize] {
         return Ok(Fate::GoesOn);
@@ -155,7 +162,10 @@ pub(crate) fn run(
     requires none { family.old.held.items ≡ [] }
     ensures whole { IfOk result (λ fate. IsWhole first.now second.now order.now.pairs family.new) }
     ensures few { IfOk result (λ fate. fate ≡ Fate.GoesOn → length family.new.held.items ≤ limit) }
-    ensures ended { IfOk result (λ fate. HasEnded first.now second.now order.now.pairs limit fate (entries_held first.now family.new)) }
+    ensures ended { IfOk
+        result (λ fate.
+        HasEnded first.now second.now order.now.pairs limit fate
+        (entries_held first.now family.new)) }
 {
     let mut sets = Sets::new(alloc)?;
     let fate = try_start(alloc, first, second, order, limit, family)?;

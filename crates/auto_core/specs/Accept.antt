@@ -5,8 +5,9 @@ use Rattle.auto_core.specs.Run.{Run, repeated}
 use Rattle.auto_core.specs.declared.parts.Mode.{Mode}
 use Rattle.auto_core.specs.declared.parts.Mode.TheVariants.{Buchi, Finite}
 
--- The automaton accepts u·v^ω: for some k, some m of at least 1 and some state p, a run on u and k times v leads from
--- the initial state to p, and a run on m times v leads from p to p past an accepting state.
+-- The automaton accepts u·v^ω: for some k, some m of at least 1 and some state p, a run on u and k
+-- times v leads from the initial state to p, and a run on m times v leads from p to p past an
+-- accepting state.
 pub record AcceptsLasso (A : Automaton) (u v : List ℕ) : Type 0 where
   pub before : ℕ
   pub turns : ℕ

@@ -28,7 +28,8 @@ IsAccepting A q = Contains A.accepting q
 abbrev pub is_accepting : Automaton → ℕ → Bool
 is_accepting A q = list_any (λ x. x == q) A.accepting
 
--- The transition with this number; there is none past the end, and then it is the transition of zeros.
+-- The transition with this number; there is none past the end, and then it is the transition of
+-- zeros.
 abbrev pub trans_at : Automaton → ℕ → Trans
 trans_at A t = slice_index_or A.transitions t (trans 0 0 0)
 
@@ -45,13 +46,15 @@ IsAscending transitions =
     (i j : ℕ)
     → i < j
     → j < length transitions
-    → IsBefore (slice_index_or transitions i (trans 0 0 0)) (slice_index_or transitions j (trans 0 0 0))
+    → IsBefore (slice_index_or transitions i (trans 0 0 0))
+    (slice_index_or transitions j (trans 0 0 0))
 
 -- Both ends of the transition are states, and its label is a label.
 abbrev pub IsInRange : ℕ → ℕ → Trans → Type 0
 IsInRange states labels t = (t.source < states) × (t.target < states) × (t.label < labels)
 
--- A valid automaton: every number is in range, transitions and accepting states stand in strictly ascending order.
+-- A valid automaton: every number is in range, transitions and accepting states stand in strictly
+-- ascending order.
 pub record IsAutomaton (A : Automaton) : Type 0 where
   pub states_fit : A.states < 2 ^ 32
   pub labels_fit : A.labels < 2 ^ 32
@@ -79,13 +82,14 @@ IsBelowPair t p a = (t.source < p) ⊎ ((t.source ≡ p) × (t.label < a))
 abbrev pub IsAbovePair : Trans → ℕ → ℕ → Type 0
 IsAbovePair t p a = (p < t.source) ⊎ ((t.source ≡ p) × (a < t.label))
 
--- The numbers from `begin` up to `end` are just those of the transitions out of p with the letter a;
--- those before stand before p and a, those after stand after them.
+-- The numbers from `begin` up to `end` are just those of the transitions out of p with the letter
+-- a; those before stand before p and a, those after stand after them.
 pub record IsSuccessors (A : Automaton) (p a begin end : ℕ) : Type 0 where
   pub is_range : begin ≤ end
   pub within : end ≤ length A.transitions
   pub before : (t : ℕ) → t < begin → IsBelowPair (trans_at A t) p a
-  pub inside : (t : ℕ) → begin ≤ t → t < end → ((trans_at A t).source ≡ p) × ((trans_at A t).label ≡ a)
+  pub inside : (t : ℕ) → begin ≤ t → t < end
+      → ((trans_at A t).source ≡ p) × ((trans_at A t).label ≡ a)
   pub after : (t : ℕ) → end ≤ t → t < length A.transitions → IsAbovePair (trans_at A t) p a
 
 -- The list holds just the numbers of the transitions into q, ascending.
@@ -97,4 +101,5 @@ pub record IsIncoming (A : Automaton) (q : ℕ) (numbers : List ℕ) : Type 0 wh
 -- Two places of the list hold the same.
 abbrev pub HasRepeat : {X : Type 0} → List X → Type 0
 HasRepeat {X} xs =
-    (i j : ℕ) × (¬ (i ≡ j)) × (i < length xs) × (j < length xs) × ((d : X) → slice_index_or xs i d ≡ slice_index_or xs j d)
+    (i j : ℕ) × (¬ (i ≡ j)) × (i < length xs) × (j < length xs)
+    × ((d : X) → slice_index_or xs i d ≡ slice_index_or xs j d)

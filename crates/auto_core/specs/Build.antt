@@ -15,7 +15,8 @@ HasStateFault states initial transitions accepting =
 -- The initial state, both ends of each transition and each accepting state are states.
 abbrev pub HasStates : ℕ → ℕ → List Trans → List ℕ → Type 0
 HasStates states initial transitions accepting =
-    (initial < states) × All (λ t. (t.source < states) × (t.target < states)) transitions × All (λ q. q < states) accepting
+    (initial < states) × All (λ t. (t.source < states) × (t.target < states)) transitions
+    × All (λ q. q < states) accepting
 
 -- The label of a transition is no label.
 abbrev pub HasLabelFault : ℕ → List Trans → Type 0
@@ -26,7 +27,8 @@ abbrev pub HasLabels : ℕ → List Trans → Type 0
 HasLabels labels transitions = All (λ t. t.label < labels) transitions
 
 -- The automaton is a valid one with just the parts that were given, in order.
-pub record IsBuilt (states labels initial : ℕ) (transitions : List Trans) (accepting : List ℕ) (A : Automaton) : Type 0 where
+pub record IsBuilt (states labels initial : ℕ) (transitions : List Trans) (accepting : List ℕ)
+    (A : Automaton) : Type 0 where
   pub valid : IsAutomaton A
   pub states_given : A.states ≡ states
   pub labels_given : A.labels ≡ labels
@@ -71,6 +73,8 @@ pub record AreArrivals (transitions : List Trans) (numbers : List ℕ) : Type 0 
       (i j : ℕ)
       → i < j
       → j < length numbers
-      → (target_of transitions (slice_index numbers i) < target_of transitions (slice_index numbers j))
-      ⊎ ((target_of transitions (slice_index numbers i) ≡ target_of transitions (slice_index numbers j))
+      → (target_of transitions (slice_index numbers i)
+      < target_of transitions (slice_index numbers j))
+      ⊎ ((target_of transitions (slice_index numbers i)
+      ≡ target_of transitions (slice_index numbers j))
       × (slice_index numbers i < slice_index numbers j))

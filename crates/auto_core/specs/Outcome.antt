@@ -1,6 +1,6 @@
--- The outcome of a search: elements enter one after another until none is left to enter, two of them fail, or too many have
--- entered. It is told over elements of any kind, by rules that a search gives for them; the search for a closed set of
--- supergraphs is the one at the end of this file.
+-- The outcome of a search: elements enter one after another until none is left to enter, two of
+-- them fail, or too many have entered. It is told over elements of any kind, by rules that a search
+-- gives for them; the search for a closed set of supergraphs is the one at the end of this file.
 use Rattle.std.specs.Prelude.{◌≡◌, ℕ, suc, ◌<◌, ◌≤◌, ◌⊎◌, Bool, true, false, ◌==◌, List, [], ◌∷◌, ◌++◌, length, map, filter, Some}
 use Rattle.std.specs.List.{slice_get, range_with_len}
 use Rattle.auto_core.specs.Automaton.{Automaton, trans_at}
@@ -9,8 +9,8 @@ use Rattle.auto_core.specs.Graph.{SameGraph, Supergraph, Subsumes, Passes, Fails
 use Rattle.auto_core.specs.declared.parts.Origin.{Origin}
 use Rattle.auto_core.specs.declared.parts.Origin.TheVariants.{Base, Next}
 
--- What a search goes by: when one element subsumes another, when a pair of elements passes and when it fails, the candidates
--- at the start, and those that come from an element and its number.
+-- What a search goes by: when one element subsumes another, when a pair of elements passes and when
+-- it fails, the candidates at the start, and those that come from an element and its number.
 pub record Rules (E : Type 0) : Type 1 where
   pub subsumes : E → E → Type 0
   pub passes : E → E → Type 0
@@ -18,8 +18,8 @@ pub record Rules (E : Type 0) : Type 1 where
   pub starts : List E
   pub extensions : ℕ → E → List E
 
--- How a search ends: with a closed set, which is the list of its elements; with a pair of elements that fails; or with a list
--- that has one element more than the limit.
+-- How a search ends: with a closed set, which is the list of its elements; with a pair of elements
+-- that fails; or with a list that has one element more than the limit.
 pub data Outcome (E : Type 0) : Type 0 where
   Closed : List E → Outcome E
   Apart : E → E → Outcome E
@@ -52,11 +52,14 @@ HasNoSubsumer {E} R es x = (i : ℕ) (y : E) → At es i y → R.subsumes y x �
 
 -- Each live element before the place passes with x, as the second of the pair and as the first.
 abbrev pub PassesBefore : {E : Type 0} → Rules E → List E → E → ℕ → Type 0
-PassesBefore {E} R es x place = (i : ℕ) (y : E) → i < place → At es i y → StaysLive R es i → R.passes x y × R.passes y x
+PassesBefore {E} R es x place =
+    (i : ℕ) (y : E) → i < place → At es i y → StaysLive R es i → R.passes x y × R.passes y x
 
--- The first pair that fails of those of the new element and a live one, which may be the new one itself: the live ones are
--- taken in order, and for each first the pair with the new element before it, then the pair with the new element behind it.
-pub record FirstFailing {E : Type 0} (R : Rules E) (es : List E) (new first second : E) : Type 0 where
+-- The first pair that fails of those of the new element and a live one, which may be the new one
+-- itself: the live ones are taken in order, and for each first the pair with the new element before
+-- it, then the pair with the new element behind it.
+pub record FirstFailing {E : Type 0} (R : Rules E) (es : List E)
+    (new first second : E) : Type 0 where
   pub place : ℕ
   pub other : E
   pub is : At es place other
@@ -66,24 +69,30 @@ pub record FirstFailing {E : Type 0} (R : Rules E) (es : List E) (new first seco
       ((first ≡ new) × (second ≡ other) × R.fails new other)
       ⊎ ((first ≡ other) × (second ≡ new) × R.passes new other × R.fails other new)
 
--- The search ends so, from these elements on, with these candidates left, and then the turns of the elements from this number on.
--- A candidate that an element subsumes is passed over. Otherwise it is added at the end of the list. If the list is then longer
--- than the limit, the search ends; if a pair of live elements with the new one fails, it ends with the first such pair. With no
--- candidate left an element has its turn: if it is live, its extensions are the next candidates. After the last turn the list
--- is closed.
-pub data Comes (E : Type 0) (R : Rules E) (limit : ℕ) : List E → List E → ℕ → Outcome E → Type 0 where
+-- The search ends so, from these elements on, with these candidates left, and then the turns of the
+-- elements from this number on. A candidate that an element subsumes is passed over. Otherwise it
+-- is added at the end of the list. If the list is then longer than the limit, the search ends; if a
+-- pair of live elements with the new one fails, it ends with the first such pair. With no candidate
+-- left an element has its turn: if it is live, its extensions are the next candidates. After the
+-- last turn the list is closed.
+pub data Comes (E : Type 0) (R : Rules E) (limit : ℕ) : List E → List E → ℕ → Outcome E
+    → Type 0 where
   passed_over : {es : List E} {c : E} {cs : List E} {turn : ℕ} {o : Outcome E} →
       HasSubsumer R es c → Comes E R limit es cs turn o → Comes E R limit es (c ∷ cs) turn o
   limit_met : {es : List E} {c : E} {cs : List E} {turn : ℕ} {o : Outcome E} →
-      HasNoSubsumer R es c → length es ≡ limit → o ≡ Limit (es ++ c ∷ []) → Comes E R limit es (c ∷ cs) turn o
+      HasNoSubsumer R es c → length es ≡ limit → o ≡ Limit (es ++ c ∷ [])
+      → Comes E R limit es (c ∷ cs) turn o
   told_apart : {es : List E} {c : E} {cs : List E} {turn : ℕ} {o : Outcome E} → (first second : E) →
-      HasNoSubsumer R es c → length es < limit → FirstFailing R (es ++ c ∷ []) c first second → o ≡ Apart first second →
+      HasNoSubsumer R es c → length es < limit → FirstFailing R (es ++ c ∷ []) c first second
+      → o ≡ Apart first second →
       Comes E R limit es (c ∷ cs) turn o
   entered : {es : List E} {c : E} {cs : List E} {turn : ℕ} {o : Outcome E} →
-      HasNoSubsumer R es c → length es < limit → PassesBefore R (es ++ c ∷ []) c (length (es ++ c ∷ [])) →
+      HasNoSubsumer R es c → length es < limit
+      → PassesBefore R (es ++ c ∷ []) c (length (es ++ c ∷ [])) →
       Comes E R limit (es ++ c ∷ []) cs turn o → Comes E R limit es (c ∷ cs) turn o
   turn_of_live : {es : List E} {turn : ℕ} {o : Outcome E} → (x : E) →
-      At es turn x → StaysLive R es turn → Comes E R limit es (R.extensions turn x) (suc turn) o → Comes E R limit es [] turn o
+      At es turn x → StaysLive R es turn → Comes E R limit es (R.extensions turn x) (suc turn) o
+      → Comes E R limit es [] turn o
   turn_of_dropped : {es : List E} {turn : ℕ} {o : Outcome E} →
       IsDropped R es turn → Comes E R limit es [] (suc turn) o → Comes E R limit es [] turn o
   done : {es : List E} {turn : ℕ} {o : Outcome E} →
@@ -93,7 +102,8 @@ pub data Comes (E : Type 0) (R : Rules E) (limit : ℕ) : List E → List E → 
 abbrev pub ComesOut : {E : Type 0} → Rules E → ℕ → Outcome E → Type 0
 ComesOut {E} R limit o = Comes E R limit [] R.starts 0 o
 
--- The flags tell which elements of the list are live, and those that are not have a later one that subsumes them.
+-- The flags tell which elements of the list are live, and those that are not have a later one that
+-- subsumes them.
 pub record TellsLive {E : Type 0} (R : Rules E) (es : List E) (live : ℕ → Bool) : Type 0 where
   pub stays : (i : ℕ) → i < length es → live i ≡ true → StaysLive R es i
   pub drops : (i : ℕ) → i < length es → live i ≡ false → IsDropped R es i
@@ -110,8 +120,8 @@ pub record IsLeastSubsumer {E : Type 0} (R : Rules E) (es : List E) (x : E) (i :
   pub here : LiveSubsumes R es x i
   pub least : (j : ℕ) → j < i → LiveSubsumes R es x j → ⊥
 
--- An element of a search, of that over supergraphs and of that on finite words: where it comes from, and its arc with its
--- whole word.
+-- An element of a search, of that over supergraphs and of that on finite words: where it comes
+-- from, and its arc with its whole word.
 pub record Entry : Type 0 where
   pub origin : Origin
   pub arc : WordArc
@@ -120,7 +130,8 @@ pub record Entry : Type 0 where
 abbrev pub super_entry : Automaton → Entry → Supergraph
 super_entry B x = super_of B x.arc
 
--- The candidate of the transition with this number, and that of the element with number e extended by it.
+-- The candidate of the transition with this number, and that of the element with number e extended
+-- by it.
 abbrev pub base_entry : Automaton → ℕ → Entry
 base_entry A t = record { origin = Base t; arc = base_arc A (trans_at A t) }
 
@@ -134,8 +145,9 @@ all_steps A = range_with_len 0 (length A.transitions)
 abbrev pub steps_out : Automaton → ℕ → List ℕ
 steps_out A p = filter (λ t. (trans_at A t).source == p) (all_steps A)
 
--- The search for a closed set of supergraphs of A and B, ordered by S: it begins with each transition as a supergraph of one
--- letter, extends an element by each transition out of its end, and tests pairs by their lassos.
+-- The search for a closed set of supergraphs of A and B, ordered by S: it begins with each
+-- transition as a supergraph of one letter, extends an element by each transition out of its end,
+-- and tests pairs by their lassos.
 abbrev pub supergraph_rules : Automaton → Automaton → List (ℕ × ℕ) → Rules Entry
 supergraph_rules A B S = record {
   subsumes = λ x y. Subsumes (Holds S) (super_entry B x) (super_entry B y);
@@ -156,23 +168,29 @@ origins_in es = map (λ x. x.origin) es
 abbrev pub arcs_in : List Entry → List WordArc
 arcs_in es = map (λ x. x.arc) es
 
--- Both supergraphs have the same ends and the same flag, and their graphs give each pair of states the same value.
+-- Both supergraphs have the same ends and the same flag, and their graphs give each pair of states
+-- the same value.
 pub record SameSupergraph (x y : Supergraph) : Type 0 where
   pub from : x.from ≡ y.from
   pub to : x.to ≡ y.to
   pub flag : x.flag ≡ y.flag
   pub graph : SameGraph x.graph y.graph
 
--- The supergraph of the origin at the place: the arc that its transitions make, with the graph of their word.
+-- The supergraph of the origin at the place: the arc that its transitions make, with the graph of
+-- their word.
 abbrev pub super_at : Automaton → Automaton → List Origin → ℕ → Supergraph
 super_at A B origins e = super_of B (arc_at A (arcs_of A origins) e)
 
--- The origins are so many, each names transitions and earlier ones that fit, and their supergraphs are pairwise different.
+-- The origins are so many, each names transitions and earlier ones that fit, and their supergraphs
+-- are pairwise different.
 pub record AreListed (A B : Automaton) (count : ℕ) (origins : List Origin) : Type 0 where
   pub size : length origins ≡ count
   pub placed : ArePlaced A origins
-  pub differ : (i j : ℕ) → i < j → j < length origins → SameSupergraph (super_at A B origins i) (super_at A B origins j) → ⊥
+  pub differ : (i j : ℕ) → i < j → j < length origins
+      → SameSupergraph (super_at A B origins i) (super_at A B origins j) → ⊥
 
 -- No origin's supergraph is subsumed by that of an earlier one.
 abbrev pub NoneSubsumedBefore : Automaton → Automaton → List (ℕ × ℕ) → List Origin → Type 0
-NoneSubsumedBefore A B S origins = (i j : ℕ) → i < j → j < length origins → Subsumes (Holds S) (super_at A B origins i) (super_at A B origins j) → ⊥
+NoneSubsumedBefore A B S origins =
+    (i j : ℕ) → i < j → j < length origins
+    → Subsumes (Holds S) (super_at A B origins i) (super_at A B origins j) → ⊥

@@ -1,5 +1,6 @@
--- Pruning: transitions that have a better one are removed. What is better is said by one of four approved pairs of relations, a backward
--- one between the sources and a forward one between the targets:
+-- Pruning: transitions that have a better one are removed. What is better is said by one of four
+-- approved pairs of relations, a backward one between the sources and a forward one between the
+-- targets:
 --
 --   pair 1: the same source; the target strictly below
 --   pair 2: the source strictly below; the same target
@@ -26,7 +27,8 @@ AtTarget n ahead p q =
     ⊎ ((n ≡ 3) × Strict ahead p q)
     ⊎ ((n ≡ 4) × ahead p q)
 
--- The transition u is better than t: it has the same letter, and pair n relates the ends of t to those of u.
+-- The transition u is better than t: it has the same letter, and pair n relates the ends of t to
+-- those of u.
 pub record IsBetter (n : ℕ) (back ahead : ℕ → ℕ → Type 0) (t u : Trans) : Type 0 where
   pub label : t.label ≡ u.label
   pub source : AtSource n back t.source u.source
@@ -48,7 +50,10 @@ pub record IsCut (A : Automaton) (gone : List ℕ) (B : Automaton) : Type 0 wher
   pub states : B.states ≡ A.states
   pub labels : B.labels ≡ A.labels
   pub initial : B.initial ≡ A.initial
-  pub moves : (p a q : ℕ) → Moves B p a q ↔ ((t : ℕ) × (t < length A.transitions) × (trans_at A t ≡ trans p a q) × (Contains gone t → ⊥))
+  pub moves : (p a q : ℕ)
+      → Moves B p a q
+      ↔ ((t : ℕ) × (t < length A.transitions) × (trans_at A t ≡ trans p a q)
+      × (Contains gone t → ⊥))
   pub accepting : B.accepting ≡ A.accepting
 
 -- The lookahead of the backward relation in pair n where the reduction has lookahead k.
@@ -75,11 +80,14 @@ IsGreatestBack A n k S = ¬ (n ≡ 1) → IsGreatestBackward A (look_backward n 
 abbrev pub IsGreatestAhead : Automaton → ℕ → ℕ → List (ℕ × ℕ) → Type 0
 IsGreatestAhead A n k S = ¬ (n ≡ 2) → IsGreatestForward A (look_forward n k) S
 
--- The numbers are just those of the transitions that have a better one by pair n over the closures of the lists.
+-- The numbers are just those of the transitions that have a better one by pair n over the closures
+-- of the lists.
 abbrev pub AreRemovable : Automaton → ℕ → List (ℕ × ℕ) → List (ℕ × ℕ) → List ℕ → Type 0
-AreRemovable A n back ahead gone = (t : ℕ) → Contains gone t ↔ HasBetter A n (Close (Holds back)) (Close (Holds ahead)) t
+AreRemovable A n back ahead gone =
+    (t : ℕ) → Contains gone t ↔ HasBetter A n (Close (Holds back)) (Close (Holds ahead)) t
 
--- B is A without each transition that has a better one by pair n at lookahead k, the relations being the greatest ones.
+-- B is A without each transition that has a better one by pair n at lookahead k, the relations
+-- being the greatest ones.
 pub record IsPruned (A : Automaton) (n k : ℕ) (B : Automaton) : Type 0 where
   pub back : List (ℕ × ℕ)
   pub ahead : List (ℕ × ℕ)

@@ -3,7 +3,8 @@ use Rattle.std.specs.Prelude.{◌≡◌, ℕ, ◌*◌, ◌<◌, ◌≤◌, List,
 use Rattle.auto_core.specs.Rows.{HasBit, HasCell}
 use Rattle.auto_core.specs.Game.{Close}
 
--- The table has n rows of `width` words, which have room for n columns, and each bit is in one of the n columns.
+-- The table has n rows of `width` words, which have room for n columns, and each bit is in one of
+-- the n columns.
 pub record IsTable (table : List ℕ) (n width : ℕ) : Type 0 where
   pub len : length table ≡ n * width
   pub room : n ≤ width * 64
@@ -26,7 +27,8 @@ pub record AreReached (R : ℕ → ℕ → Type 0) (old new : List ℕ) : Type 0
 abbrev pub ReturnsTo : (ℕ → ℕ → Type 0) → (ℕ → ℕ → Type 0) → ℕ → Type 0
 ReturnsTo any flagged at = (next : ℕ) × flagged at next × Close any next at
 
--- From one of the marks a place x is reached from which a flagged arc leads back to x, by any number of arcs.
+-- From one of the marks a place x is reached from which a flagged arc leads back to x, by any
+-- number of arcs.
 pub record HasFlaggedCycle (any flagged : ℕ → ℕ → Type 0) (marks : List ℕ) : Type 0 where
   pub start : ℕ
   pub at : ℕ

@@ -6,7 +6,8 @@ use Rattle.auto_core.specs.Automaton.{Automaton, Moves, is_accepting}
 abbrev pub Run : Automaton → ℕ → List ℕ → ℕ → Bool → Type 0
 Run A p [] q flag = (p ≡ q) × (flag ≡ false)
 Run A p (a ∷ w) q flag =
-    (next : ℕ) × (later : Bool) × Moves A p a next × Run A next w q later × (flag ≡ (is_accepting A next || later))
+    (next : ℕ) × (later : Bool) × Moves A p a next × Run A next w q later
+    × (flag ≡ (is_accepting A next || later))
 
 -- A path by the moves M from p on the word: the list has the state after each letter.
 abbrev pub PathBy : (ℕ → ℕ → ℕ → Type 0) → ℕ → List ℕ → List ℕ → Type 0

@@ -20,4 +20,5 @@ pub record IsStored (a : Inside) : Type 0 where
   pub flags : AreFlags a.states a.accepting.items a.flags.items
   pub starts : AreStarts (sources_of a.transitions.items) a.states a.starts.items
   pub incoming : AreArrivals a.transitions.items a.incoming.items
-  pub incoming_starts : AreStarts (targets_at a.transitions.items a.incoming.items) a.states a.incoming_starts.items
+  pub incoming_starts : AreStarts (targets_at a.transitions.items a.incoming.items) a.states
+      a.incoming_starts.items

@@ -39,15 +39,19 @@ stays A kept q = list_any (λ x. x == q) kept || q == A.initial
 abbrev pub new_number : Automaton → List ℕ → ℕ → ℕ
 new_number A kept q = count_below (stays A kept) q
 
--- B has the kept states of A and the initial one, under new numbers in the old order; the transitions with both ends kept; and the
--- accepting states that are kept.
+-- B has the kept states of A and the initial one, under new numbers in the old order; the
+-- transitions with both ends kept; and the accepting states that are kept.
 pub record IsKeptPart (A : Automaton) (kept : List ℕ) (B : Automaton) : Type 0 where
   pub valid : IsAutomaton B
   pub states : B.states ≡ count_below (stays A kept) A.states
   pub labels : B.labels ≡ A.labels
   pub initial : B.initial ≡ new_number A kept A.initial
-  pub moves : (p a q : ℕ) → Moves B p a q ↔ ((r s : ℕ) × Contains kept r × Contains kept s × Moves A r a s × (p ≡ new_number A kept r) × (q ≡ new_number A kept s))
-  pub accepting : (p : ℕ) → IsAccepting B p ↔ ((r : ℕ) × Contains kept r × IsAccepting A r × (p ≡ new_number A kept r))
+  pub moves : (p a q : ℕ)
+      → Moves B p a q
+      ↔ ((r s : ℕ) × Contains kept r × Contains kept s × Moves A r a s × (p ≡ new_number A kept r)
+      × (q ≡ new_number A kept s))
+  pub accepting : (p : ℕ)
+      → IsAccepting B p ↔ ((r : ℕ) × Contains kept r × IsAccepting A r × (p ≡ new_number A kept r))
 
 -- The list has just the useful states.
 abbrev pub AreUseful : Automaton → Mode → List ℕ → Type 0

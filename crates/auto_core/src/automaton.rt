@@ -13,7 +13,8 @@ use thiserror::Error;
 /// Why an automaton was not built.
 #[derive(Debug, Drop, Error)]
 pub enum BuildFault {
-    /// The initial state, an end of a transition or an accepting state is not below the number of states.
+    /// The initial state, an end of a transition or an accepting state is not below the number of
+    /// states.
     #[error("a number names no state")]
     StateRange,
     /// A label is not below the number of labels.
@@ -76,7 +77,8 @@ impl Auto {
     ) -> Result<Auto, BuildFault>
         requires { length transitions.now < 2 ^ 32 }
         ensures built { IfOk result (IsBuilt states labels initial transitions.now accepting.now) }
-        ensures state_range { result ≡ Err BuildFault.StateRange → HasStateFault states initial transitions.now accepting.now }
+        ensures state_range { result ≡ Err BuildFault.StateRange
+            → HasStateFault states initial transitions.now accepting.now }
         ensures label_range { result ≡ Err BuildFault.LabelRange
             → HasStates states initial transitions.now accepting.now × HasLabelFault labels transitions.now }
         ensures repeat { result ≡ Err BuildFault.Repeat
@@ -103,8 +105,23 @@ impl Auto {
         transitions: Vec<Trans>,
         accepting: Vec<u32>,
     ) -> Result<Auto, Memory>
-        requires { IsAutomaton (record { states = states; labels = labels; initial = initial; transitions = transitions.items; accepting = accepting.items }) }
-        ensures { IfOk result (λ a. a ≡ record { states = states; labels = labels; initial = initial; transitions = transitions.items; accepting = accepting.items }) }
+        requires { IsAutomaton
+            (record {
+              states = states;
+              labels = labels;
+              initial = initial;
+              transitions = transitions.items;
+              accepting = accepting.items;
+            }) }
+        ensures { IfOk
+            result (λ a.
+            a ≡ record {
+              states = states;
+              labels = labels;
+              initial = initial;
+              transitions = transitions.items;
+              accepting = accepting.items;
+            }) }
     {
         let flags = tables::flags_of(alloc, states, &accepting)?;
         let starts = tables::starts_of(alloc, &tables::sources(alloc, &transitions)?, states)?;

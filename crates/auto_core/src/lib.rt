@@ -1,4 +1,5 @@
-//! What every crate of `rabit` speaks of: automata, words, lassos, and the definitions and laws of their runs.
+//! What every crate of `rabit` speaks of: automata, words, lassos, and the definitions and laws of
+//! their runs.
 #![tactic(auto)]
 
 mod automaton;

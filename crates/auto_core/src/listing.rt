@@ -6,7 +6,8 @@ use crate::parts::Memory;
 use std::alloc::Global;
 use std::marker::Model;
 
-/// A list, seen by contracts as the list of its items. It keeps the allocator that it was made with.
+/// A list, seen by contracts as the list of its items. It keeps the allocator that it was made
+/// with.
 #[derive(Debug, Drop)]
 pub struct List<T: Drop> {
     items: Vec<T>,

@@ -8,7 +8,8 @@ use crate::automaton::{Auto, BuildFault};
 use crate::parts::{Memory, Trans};
 use std::alloc::Global;
 
-/// The automaton with these parts, in any order; they have no fault, so that only memory can be refused.
+/// The automaton with these parts, in any order; they have no fault, so that only memory can be
+/// refused.
 pub fn of_parts(
     alloc: Global,
     states: u32,

@@ -24,8 +24,8 @@ pub fn reach(table: &[u64], count: u32, width: usize, marks: &mut [u64], done: &
     }
 }
 
-/// Tells whether a flagged arc out of the place leads back to it, by any number of arcs. `back` and `done` are room for one
-/// row each.
+/// Tells whether a flagged arc out of the place leads back to it, by any number of arcs. `back` and
+/// `done` are room for one row each.
 pub fn returns_to(
     any: &[u64],
     flagged: &[u64],
@@ -41,15 +41,17 @@ pub fn returns_to(
     requires back_len { length back.old ≡ width }
     requires done_len { length done.old ≡ width }
     requires place { at < count }
-    ensures { IsTrue result ↔ ReturnsTo (HasArc any.now count width) (HasArc flagged.now count width) at }
+    ensures { IsTrue result
+        ↔ ReturnsTo (HasArc any.now count width) (HasArc flagged.now count width) at }
 {
     back.copy_from_slice(rows::row_at(flagged, width, at));
     reach(any, count, width, back, done);
     rows::has_bit(back, at)
 }
 
-/// Tells whether along the arcs of `any` a cycle with an arc of `flagged` is reached from the marks. Both tables have `count`
-/// rows; `back` and `done` are room for one row each. The marks are left on all that is reached.
+/// Tells whether along the arcs of `any` a cycle with an arc of `flagged` is reached from the
+/// marks. Both tables have `count` rows; `back` and `done` are room for one row each. The marks are
+/// left on all that is reached.
 pub fn has_flagged_cycle(
     any: &[u64],
     flagged: &[u64],
@@ -66,7 +68,8 @@ pub fn has_flagged_cycle(
     requires back_len { length back.old ≡ width }
     requires done_len { length done.old ≡ width }
     requires marks_below { MarksBelow marks.old count }
-    ensures told { IsTrue result ↔ HasFlaggedCycle (HasArc any.now count width) (HasArc flagged.now count width) marks.old }
+    ensures told { IsTrue result
+        ↔ HasFlaggedCycle (HasArc any.now count width) (HasArc flagged.now count width) marks.old }
     ensures reached { AreReached (HasArc any.now count width) marks.old marks.new }
 {
     reach(any, count, width, marks, done);

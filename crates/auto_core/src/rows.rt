@@ -47,12 +47,13 @@ pub fn clear_row(row: &mut [u64])
     }
 }
 
-/// Makes each of the first words the 'or' of it and the word of the other row, by lanes of four, and tells how many words these are: all
-/// but fewer than four.
+/// Makes each of the first words the 'or' of it and the word of the other row, by lanes of four,
+/// and tells how many words these are: all but fewer than four.
 fn or_lanes(into: &mut [u64], from: &[u64]) -> usize
     requires { length into.old ≡ length from.now }
     ensures most { result ≤ length into.old }
-    ensures first { (k : ℕ) → k < result → slice_index into.new k ≡ bit_or (slice_index into.old k) (slice_index from.now k) }
+    ensures first { (k : ℕ) → k < result
+        → slice_index into.new k ≡ bit_or (slice_index into.old k) (slice_index from.now k) }
     ensures rest { (k : ℕ) → result ≤ k → slice_index into.new k ≡ slice_index into.old k }
 {
     let mut at = 0;
@@ -74,7 +75,8 @@ pub fn or_into(into: &mut [u64], from: &[u64])
     }
 }
 
-/// Sets each bit that the other row of the same length has, word by word: in short rows lanes cost more than they save.
+/// Sets each bit that the other row of the same length has, word by word: in short rows lanes cost
+/// more than they save.
 pub fn add_bits(into: &mut [u64], from: &[u64])
     requires { length into.old ≡ length from.now }
     ensures { (i : ℕ) → bit_of into.new i ≡ (bit_of into.old i || bit_of from.now i) }
@@ -98,7 +100,8 @@ pub fn row_at(table: &[u64], width: usize, at: usize) -> &[u64]
 pub fn first_missing(row: &[u64], other: &[u64]) -> Option<usize>
     requires equal { length row.now ≡ length other.now }
     requires few { length row.now < 2 ^ 32 }
-    ensures found { IfSome result (λ i. HasBit row.now i × (bit_of other.now i ≡ false) × (i < length row.now * 64)) }
+    ensures found { IfSome
+        result (λ i. HasBit row.now i × (bit_of other.now i ≡ false) × (i < length row.now * 64)) }
     ensures first { IfSome result (λ i. (j : ℕ) → j < i → HasBit row.now j → HasBit other.now j) }
     ensures none { IfNone result ((i : ℕ) → HasBit row.now i → HasBit other.now i) }
 {
@@ -125,7 +128,8 @@ pub fn set_cell(table: &mut [u64], width: usize, p: usize, q: usize)
     requires row { p * width + width ≤ length table.old }
     requires column { q < width * 64 }
     ensures here { cell_of table.new width p q ≡ true }
-    ensures others { (r s : ℕ) → s < width * 64 → ¬ ((r ≡ p) × (s ≡ q)) → cell_of table.new width r s ≡ cell_of table.old width r s }
+    ensures others { (r s : ℕ) → s < width * 64 → ¬ ((r ≡ p) × (s ≡ q))
+        → cell_of table.new width r s ≡ cell_of table.old width r s }
 {
     table[p * width + q / 64] |= 1 << (q % 64);
 }
@@ -135,18 +139,23 @@ pub fn clear_cell(table: &mut [u64], width: usize, p: usize, q: usize)
     requires row { p * width + width ≤ length table.old }
     requires column { q < width * 64 }
     ensures here { cell_of table.new width p q ≡ false }
-    ensures others { (r s : ℕ) → s < width * 64 → ¬ ((r ≡ p) × (s ≡ q)) → cell_of table.new width r s ≡ cell_of table.old width r s }
+    ensures others { (r s : ℕ) → s < width * 64 → ¬ ((r ≡ p) × (s ≡ q))
+        → cell_of table.new width r s ≡ cell_of table.old width r s }
 {
     table[p * width + q / 64] &= !(1 << (q % 64));
 }
 
-/// Adds the bits of `from`, which has `width` words, to row `p` of the table, and leaves the other rows.
+/// Adds the bits of `from`, which has `width` words, to row `p` of the table, and leaves the other
+/// rows.
 pub fn or_row(table: &mut [u64], width: usize, p: usize, from: &[u64])
     requires row { p * width + width ≤ length table.old }
     requires equal { length from.now ≡ width }
-    ensures here { (q : ℕ) → q < width * 64 → cell_of table.new width p q ≡ (cell_of table.old width p q || bit_of from.now q) }
-    ensures others { (r q : ℕ) → q < width * 64 → ¬ (r ≡ p) → cell_of table.new width r q ≡ cell_of table.old width r q }
-    ensures rest { (k : ℕ) → (k < p * width) ⊎ (p * width + width ≤ k) → slice_index table.new k ≡ slice_index table.old k }
+    ensures here { (q : ℕ) → q < width * 64
+        → cell_of table.new width p q ≡ (cell_of table.old width p q || bit_of from.now q) }
+    ensures others { (r q : ℕ) → q < width * 64 → ¬ (r ≡ p)
+        → cell_of table.new width r q ≡ cell_of table.old width r q }
+    ensures rest { (k : ℕ) → (k < p * width) ⊎ (p * width + width ≤ k)
+        → slice_index table.new k ≡ slice_index table.old k }
 {
     for j in 0..width {
         table[p * width + j] |= from[j];

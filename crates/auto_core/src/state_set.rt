@@ -8,7 +8,8 @@ use crate::parts::Memory;
 use std::alloc::Global;
 use std::marker::Model;
 
-/// A set of the states below a number. Contracts see it as `Members`: that number and the list of the members, ascending.
+/// A set of the states below a number. Contracts see it as `Members`: that number and the list of
+/// the members, ascending.
 #[derive(Debug, Drop)]
 pub struct StateSet {
     states: u32,

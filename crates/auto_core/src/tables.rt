@@ -85,7 +85,9 @@ pub fn sorted_transitions(alloc: Global, transitions: &[Trans]) -> Result<Vec<Tr
 
 fn has_equal_neighbours(transitions: &[Trans]) -> bool
     ensures found { OnTrue result (HasRepeat transitions.now) }
-    ensures none { OnFalse result ((k : ℕ) (d : _) → k + 1 < length transitions.now → ¬ (slice_index_or transitions.now k d ≡ slice_index_or transitions.now (k + 1) d)) }
+    ensures none { OnFalse result
+        ((k : ℕ) (d : _) → k + 1 < length transitions.now
+        → ¬ (slice_index_or transitions.now k d ≡ slice_index_or transitions.now (k + 1) d)) }
 {
     for i in 1..transitions.len() {
         if transitions[i - 1] == transitions[i] {
@@ -113,7 +115,9 @@ pub fn sorted_states(alloc: Global, states: &[u32]) -> Result<Vec<u32>, BuildFau
 
 fn has_equal_states(states: &[u32]) -> bool
     ensures found { OnTrue result (HasRepeat states.now) }
-    ensures none { OnFalse result ((k : ℕ) → k + 1 < length states.now → ¬ (slice_index states.now k ≡ slice_index states.now (k + 1))) }
+    ensures none { OnFalse result
+        ((k : ℕ) → k + 1 < length states.now
+        → ¬ (slice_index states.now k ≡ slice_index states.now (k + 1))) }
 {
     for i in 1..states.len() {
         if states[i - 1] == states[i] {

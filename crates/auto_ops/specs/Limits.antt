@@ -3,7 +3,8 @@ use Rattle.std.specs.Prelude.{ℕ, ◌<◌, ◌≤◌, List, length, All}
 use Rattle.auto_core.specs.Automaton.{Automaton, HasRepeat}
 use Rattle.auto_ops.specs.declared.limits.TheConstants.{MOST_STATES, MOST_TRANSITIONS, MOST_LABELS}
 
--- The automaton is no larger than a result may be: it has at most so many states, transitions and labels.
+-- The automaton is no larger than a result may be: it has at most so many states, transitions and
+-- labels.
 pub record IsSmallResult (A : Automaton) : Type 0 where
   pub states : A.states ≤ MOST_STATES
   pub transitions : length A.transitions ≤ MOST_TRANSITIONS

@@ -7,10 +7,11 @@ use Rattle.auto_core.specs.declared.parts.Trans.{Trans}
 use Rattle.auto_ops.specs.declared.limits.TheConstants.{MOST_STATES, MOST_TRANSITIONS, MOST_LABELS}
 use Rattle.auto_ops.specs.Limits.{AreMoreThan}
 
--- Where the state r of A has the number offset + r: a move of A under these numbers, or a copy that leaves the new state 0 of a move
--- that leaves A's initial state.
+-- Where the state r of A has the number offset + r: a move of A under these numbers, or a copy that
+-- leaves the new state 0 of a move that leaves A's initial state.
 abbrev pub IsMoveOfOne : Automaton → ℕ → ℕ → ℕ → ℕ → Type 0
-IsMoveOfOne A offset p a q = (r s : ℕ) × Moves A r a s × ((p ≡ offset + r) ⊎ ((p ≡ 0) × (r ≡ A.initial))) × (q ≡ offset + s)
+IsMoveOfOne A offset p a q =
+    (r s : ℕ) × Moves A r a s × ((p ≡ offset + r) ⊎ ((p ≡ 0) × (r ≡ A.initial))) × (q ≡ offset + s)
 
 -- The number in the union of the second automaton's state 0, where the first is A.
 abbrev pub second_offset : Automaton → ℕ
@@ -38,7 +39,8 @@ pub record IsUnion (mode : Mode) (A B U : Automaton) : Type 0 where
   pub accepting :
       (p : ℕ)
       → IsAccepting U p
-      ↔ (IsShiftedAccepting A 1 p ⊎ IsShiftedAccepting B (second_offset A) p ⊎ ((p ≡ 0) × AcceptsAtOnce mode A B))
+      ↔ (IsShiftedAccepting A 1 p ⊎ IsShiftedAccepting B (second_offset A) p
+      ⊎ ((p ≡ 0) × AcceptsAtOnce mode A B))
 
 -- The union has more states, transitions or labels than a result may have.
 abbrev pub IsUnionTooLarge : Automaton → Automaton → Type 0

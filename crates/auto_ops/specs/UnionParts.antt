@@ -26,7 +26,8 @@ first_moves A = filter (leaves A.initial) A.transitions
 
 -- All that the union has of one automaton: its transitions, shifted, and the copies.
 abbrev pub transitions_of_one : Automaton → ℕ → List Trans
-transitions_of_one A offset = map (shifted offset) A.transitions ++ map (copied offset) (first_moves A)
+transitions_of_one A offset =
+    map (shifted offset) A.transitions ++ map (copied offset) (first_moves A)
 
 -- All transitions of the union.
 abbrev pub union_transitions : Automaton → Automaton → List Trans
@@ -48,7 +49,8 @@ start_if b = if b then 0 ∷ [] else []
 -- All accepting states of the union.
 abbrev pub union_accepting : Mode → Automaton → Automaton → List ℕ
 union_accepting mode A B =
-    start_if (accepts_at_once mode A B) ++ accepting_of_one A 1 A.states ++ accepting_of_one B (second_offset A) B.states
+    start_if (accepts_at_once mode A B) ++ accepting_of_one A 1 A.states
+    ++ accepting_of_one B (second_offset A) B.states
 
 -- The union is not too large.
 pub record IsSmallUnion (A B : Automaton) : Type 0 where

@@ -18,9 +18,12 @@ use std::alloc::Global;
 
 /// The reached product states, with the transitions between them.
 fn explore(alloc: Global, first: &Auto, second: &Auto, mode: Mode) -> Result<Product, OpFault>
-    ensures explored { IfOk result (λ p. IsExplored mode first.now second.now p.product_states.items p.transitions.items) }
+    ensures explored { IfOk
+        result (λ p.
+        IsExplored mode first.now second.now p.product_states.items p.transitions.items) }
     ensures valid { IfOk result (λ _. IsAutomaton second.now) }
-    ensures too_large { result ≡ Err OpFault.TooLarge → IsIntersectionTooLarge mode first.now second.now }
+    ensures too_large { result ≡ Err OpFault.TooLarge
+        → IsIntersectionTooLarge mode first.now second.now }
 {
     let mut product = Product::start(alloc, first, second)?;
     let mut done = 0;
@@ -42,7 +45,11 @@ fn accepting_numbers(
 ) -> Result<Vec<u32>, Memory>
     requires inside { All (IsInside first.now second.now) product_states.now }
     requires few { length product_states.now < 2 ^ 32 }
-    ensures members { IfOk result (λ v. (n : ℕ) → Contains v.items n ↔ ((t : ProductState) × At product_states.now n t × IsAcceptingProductState mode first.now second.now t)) }
+    ensures members { IfOk
+        result (λ v.
+        (n : ℕ) → Contains v.items n
+        ↔ ((t : ProductState) × At product_states.now n t
+        × IsAcceptingProductState mode first.now second.now t)) }
     ensures once { IfOk result (λ v. HasRepeat v.items → ⊥) }
 {
     let mut made = Vec::new(alloc);
@@ -54,16 +61,20 @@ fn accepting_numbers(
     Ok(made)
 }
 
-/// The intersection: its states are the reached product states of a state of the first, a state of the second and, in Büchi mode, which of the
-/// two is awaited to be accepting, in the order in which they are first seen. In finite mode none is awaited, and both have to be accepting.
-/// `TooLarge` is the answer where it would have more than 2,048 states, 65,536 transitions or 256 labels.
+/// The intersection: its states are the reached product states of a state of the first, a state of
+/// the second and, in Büchi mode, which of the two is awaited to be accepting, in the order in
+/// which they are first seen. In finite mode none is awaited, and both have to be accepting.
+/// `TooLarge` is the answer where it would have more than 2,048 states, 65,536 transitions or 256
+/// labels.
 pub fn intersect(alloc: Global, pair: &Joined, mode: Mode) -> Result<Auto, OpFault>
     requires first_labels { pair.now.first.labels ≡ length pair.now.labels }
     requires second_labels { pair.now.second.labels ≡ length pair.now.labels }
     ensures exact { IfOk result (IsIntersection mode pair.now.first pair.now.second) }
     ensures within { IfOk result IsSmallResult }
-    ensures not_too_large { IfOk result (λ _. IsIntersectionTooLarge mode pair.now.first pair.now.second → ⊥) }
-    ensures too_large { result ≡ Err OpFault.TooLarge → IsIntersectionTooLarge mode pair.now.first pair.now.second }
+    ensures not_too_large { IfOk
+        result (λ _. IsIntersectionTooLarge mode pair.now.first pair.now.second → ⊥) }
+    ensures too_large { result ≡ Err OpFault.TooLarge
+        → IsIntersectionTooLarge mode pair.now.first pair.now.second }
 {
     let first = &pair.first;
     let second = &pair.second;

@@ -1,4 +1,5 @@
-//! The intersection while it is made: its product states, numbered as they are first seen, and its transitions.
+//! The intersection while it is made: its product states, numbered as they are first seen, and its
+//! transitions.
 
 ghost use Rattle.std.specs.Prelude.{◌≡◌, ◌+◌, ◌<◌, ◌≤◌, ◌⊎◌, ◌↔◌, ◌++◌, ◌∷◌, [], ℕ, List, length, All, Contains, OnOk, IfOk, Err};
 ghost use Rattle.auto_ops.specs.declared.fault.OpFault.{OpFault};
@@ -27,7 +28,8 @@ pub struct Product {
 impl Product {
     /// The start alone: both initial states.
     pub fn start(alloc: Global, first: &Auto, second: &Auto) -> Result<Product, OpFault>
-        ensures begun { IfOk result (λ p. IsBegun first.now second.now p.product_states.items p.transitions.items) }
+        ensures begun { IfOk
+            result (λ p. IsBegun first.now second.now p.product_states.items p.transitions.items) }
         ensures valid { IfOk result (λ _. IsAutomaton first.now × IsAutomaton second.now) }
         ensures never_too_large { result ≡ Err OpFault.TooLarge → ⊥ }
     {
@@ -47,10 +49,15 @@ impl Product {
     fn number_of(&mut self, product_state: ProductState) -> Result<u32, OpFault>
         requires { length self.old.product_states.items ≤ MOST_STATES }
         ensures numbered { IfOk result (λ n. At self.new.product_states.items n product_state) }
-        ensures noted { OnOk result (self.new.product_states.items ≡ noted same_product_state self.old.product_states.items product_state) }
+        ensures noted { OnOk result
+            (self.new.product_states.items
+            ≡ noted same_product_state self.old.product_states.items product_state) }
         ensures few { OnOk result (length self.new.product_states.items ≤ MOST_STATES) }
-        ensures transitions { OnOk result (self.new.transitions.items ≡ self.old.transitions.items) }
-        ensures too_large { result ≡ Err OpFault.TooLarge → MOST_STATES < length (noted same_product_state self.old.product_states.items product_state) }
+        ensures transitions { OnOk result
+            (self.new.transitions.items ≡ self.old.transitions.items) }
+        ensures too_large { result ≡ Err OpFault.TooLarge
+            → MOST_STATES
+            < length (noted same_product_state self.old.product_states.items product_state) }
     {
         let number = find(&self.product_states, product_state);
         if number < self.product_states.len() {
@@ -63,16 +70,20 @@ impl Product {
         Ok(number as u32)
     }
 
-    /// Adds a transition from a product state's number to a product state, which is numbered if it is new.
+    /// Adds a transition from a product state's number to a product state, which is numbered if it
+    /// is new.
     fn add(&mut self, number: u32, label: u32, to: ProductState) -> Result<(), OpFault>
         requires few { length self.old.product_states.items ≤ MOST_STATES }
         requires few_transitions { length self.old.transitions.items ≤ MOST_TRANSITIONS }
-        ensures noted { OnOk result (self.new.product_states.items ≡ noted same_product_state self.old.product_states.items to) }
+        ensures noted { OnOk result
+            (self.new.product_states.items
+            ≡ noted same_product_state self.old.product_states.items to) }
         ensures added { OnOk result ((target : ℕ)
             × At self.new.product_states.items target to
             × (self.new.transitions.items ≡ self.old.transitions.items ++ trans number label target ∷ [])) }
         ensures few { OnOk result (length self.new.product_states.items ≤ MOST_STATES) }
-        ensures few_transitions { OnOk result (length self.new.transitions.items ≤ MOST_TRANSITIONS) }
+        ensures few_transitions { OnOk result
+            (length self.new.transitions.items ≤ MOST_TRANSITIONS) }
         ensures too_large { result ≡ Err OpFault.TooLarge
             → (MOST_STATES < length (noted same_product_state self.old.product_states.items to))
             ⊎ (MOST_TRANSITIONS < length self.old.transitions.items + 1) }
@@ -89,7 +100,8 @@ impl Product {
         Ok(())
     }
 
-    /// Adds the moves from the product state with this number in which the first automaton goes by this transition.
+    /// Adds the moves from the product state with this number in which the first automaton goes by
+    /// this transition.
     fn add_beside(
         &mut self,
         first: &Auto,
@@ -100,9 +112,12 @@ impl Product {
         step: Trans,
     ) -> Result<(), OpFault>
         requires at { At self.old.product_states.items number product_state }
-        requires roomy { IsRoomy first.now second.now self.old.product_states.items self.old.transitions.items }
+        requires roomy { IsRoomy first.now second.now self.old.product_states.items
+            self.old.transitions.items }
         requires step { step.target < first.now.states }
-        ensures roomy { OnOk result (IsRoomy first.now second.now self.new.product_states.items self.new.transitions.items) }
+        ensures roomy { OnOk result
+            (IsRoomy first.now second.now self.new.product_states.items
+            self.new.transitions.items) }
         ensures at { OnOk result (At self.new.product_states.items number product_state) }
         ensures added { (ms : List ProductMove)
             → IsUnderWay first.now second.now ms self.old.product_states.items self.old.transitions.items
@@ -136,8 +151,11 @@ impl Product {
         product_state: ProductState,
     ) -> Result<(), OpFault>
         requires at { At self.old.product_states.items number product_state }
-        requires roomy { IsRoomy first.now second.now self.old.product_states.items self.old.transitions.items }
-        ensures roomy { OnOk result (IsRoomy first.now second.now self.new.product_states.items self.new.transitions.items) }
+        requires roomy { IsRoomy first.now second.now self.old.product_states.items
+            self.old.transitions.items }
+        ensures roomy { OnOk result
+            (IsRoomy first.now second.now self.new.product_states.items
+            self.new.transitions.items) }
         ensures added { (ms : List ProductMove)
             → IsUnderWay first.now second.now ms self.old.product_states.items self.old.transitions.items
             → OnOk result (IsUnderWay first.now second.now (ms ++ moves_of mode first.now second.now product_state) self.new.product_states.items self.new.transitions.items) }

@@ -7,7 +7,8 @@ ghost use Rattle.auto_ops.specs.Intersection.{same_product_state, awaits_after, 
 
 use auto_core::{Auto, Mode};
 
-/// A state of the intersection: a state of each automaton, and which of the two is awaited to be accepting.
+/// A state of the intersection: a state of each automaton, and which of the two is awaited to be
+/// accepting.
 #[derive(Clone, Copy, Debug)]
 pub struct ProductState {
     /// The state of the first automaton.
@@ -34,8 +35,10 @@ pub fn same(product_state: ProductState, other: ProductState) -> bool
 /// The number of the product state in the list, or the list's length where it is not there.
 pub fn find(product_states: &[ProductState], product_state: ProductState) -> usize
     ensures within { result ≤ length product_states.now }
-    ensures found { result < length product_states.now → At product_states.now result product_state }
-    ensures absent { result ≡ length product_states.now → list_any (same_product_state product_state) product_states.now ≡ false }
+    ensures found { result < length product_states.now
+        → At product_states.now result product_state }
+    ensures absent { result ≡ length product_states.now
+        → list_any (same_product_state product_state) product_states.now ≡ false }
 {
     for at in 0..product_states.len() {
         if same(product_state, product_states[at]) {
@@ -45,7 +48,8 @@ pub fn find(product_states: &[ProductState], product_state: ProductState) -> usi
     product_states.len()
 }
 
-/// Tells whether, after a move from the product state, an accepting state of the second automaton is awaited.
+/// Tells whether, after a move from the product state, an accepting state of the second automaton
+/// is awaited.
 pub fn next_awaits(first: &Auto, second: &Auto, mode: Mode, product_state: ProductState) -> bool
     requires first { product_state.first < first.now.states }
     requires second { product_state.second < second.now.states }

@@ -31,7 +31,8 @@ fn count_first(automaton: &Auto) -> usize
 /// Appends the transitions, with both of their states shifted by the offset.
 pub fn add_shifted(made: &mut Vec<Trans>, automaton: &Auto, offset: u32) -> Result<(), Memory>
     requires { offset + automaton.now.states < 2 ^ 32 }
-    ensures { OnOk result (made.new.items ≡ made.old.items ++ map (shifted offset) automaton.now.transitions) }
+    ensures { OnOk result
+        (made.new.items ≡ made.old.items ++ map (shifted offset) automaton.now.transitions) }
 {
     let transitions = automaton.transitions();
     for at in 0..transitions.len() {
@@ -48,7 +49,8 @@ pub fn add_shifted(made: &mut Vec<Trans>, automaton: &Auto, offset: u32) -> Resu
 /// Appends the copies of the transitions that leave the initial state; they leave state 0.
 fn add_copied(made: &mut Vec<Trans>, automaton: &Auto, offset: u32) -> Result<(), Memory>
     requires { offset + automaton.now.states < 2 ^ 32 }
-    ensures { OnOk result (made.new.items ≡ made.old.items ++ map (copied offset) (first_moves automaton.now)) }
+    ensures { OnOk result
+        (made.new.items ≡ made.old.items ++ map (copied offset) (first_moves automaton.now)) }
 {
     let initial = automaton.initial();
     let transitions = automaton.transitions();
@@ -68,7 +70,9 @@ fn add_copied(made: &mut Vec<Trans>, automaton: &Auto, offset: u32) -> Result<()
 /// Appends the accepting states, shifted by the offset.
 pub fn add_accepting(made: &mut Vec<u32>, automaton: &Auto, offset: u32) -> Result<(), Memory>
     requires { offset + automaton.now.states < 2 ^ 32 }
-    ensures { OnOk result (made.new.items ≡ made.old.items ++ accepting_of_one automaton.now offset automaton.now.states) }
+    ensures { OnOk result
+        (made.new.items
+        ≡ made.old.items ++ accepting_of_one automaton.now offset automaton.now.states) }
 {
     for state in 0..automaton.states() {
         if automaton.accepting(state) {
@@ -153,16 +157,19 @@ fn is_too_large(first: &Auto, second: &Auto) -> bool
     count_transitions(first, second) > MOST_TRANSITIONS
 }
 
-/// The union: a new initial state 0, then the first's states and the second's, with all their transitions and accepting states, and with
-/// copies at state 0 of the transitions that leave either initial state. In finite mode state 0 is accepting where either initial state
-/// is. `TooLarge` is the answer where it would have more than 2,048 states, 65,536 transitions or 256 labels.
+/// The union: a new initial state 0, then the first's states and the second's, with all their
+/// transitions and accepting states, and with copies at state 0 of the transitions that leave
+/// either initial state. In finite mode state 0 is accepting where either initial state is.
+/// `TooLarge` is the answer where it would have more than 2,048 states, 65,536 transitions or 256
+/// labels.
 pub fn union(alloc: Global, pair: &Joined, mode: Mode) -> Result<Auto, OpFault>
     requires first_labels { pair.now.first.labels ≡ length pair.now.labels }
     requires second_labels { pair.now.second.labels ≡ length pair.now.labels }
     ensures exact { IfOk result (IsUnion mode pair.now.first pair.now.second) }
     ensures within { IfOk result IsSmallResult }
     ensures not_too_large { IfOk result (λ _. IsUnionTooLarge pair.now.first pair.now.second → ⊥) }
-    ensures too_large { result ≡ Err OpFault.TooLarge → IsUnionTooLarge pair.now.first pair.now.second }
+    ensures too_large { result ≡ Err OpFault.TooLarge
+        → IsUnionTooLarge pair.now.first pair.now.second }
 {
     let first = &pair.first;
     let second = &pair.second;

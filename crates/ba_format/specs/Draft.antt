@@ -68,7 +68,8 @@ pub record NotesState (old : Draft) (at : ℕ) (new : Draft) : Type 0 where
 pub record NotesTransition (old : Draft) (t : ℕ × ℕ × ℕ) (new : Draft) : Type 0 where
   pub names : new.names ≡ old.names
   pub labels : new.labels ≡ old.labels
-  pub transitions : map trans_with new.transitions.keys ≡ noted same_trans (map trans_with old.transitions.keys) (trans_with t)
+  pub transitions : map trans_with new.transitions.keys
+      ≡ noted same_trans (map trans_with old.transitions.keys) (trans_with t)
   pub opening : new.opening ≡ Transitions
   pub accepting : new.accepting ≡ old.accepting
 
@@ -83,17 +84,21 @@ TellsKind fault (Line kind) = fault ≡ Some kind
 TellsKind fault Memory = Unit {0}
 
 -- A line that says this entry was taken exactly if it has no fault after the lines before it.
-abbrev pub Takes : Limits → List LineContent → LineContent → Draft → Result (Unit {0}) NotTaken → Type 0
+abbrev pub Takes : Limits → List LineContent → LineContent → Draft → Result (Unit {0}) NotTaken
+    → Type 0
 Takes limits entries entry draft r =
     MatchResult r
-    (λ _. (later_fault limits entries entry ≡ None) × Stands draft (entries ++ entry ∷ []) × Fits limits (entries ++ entry ∷ []))
+    (λ _. (later_fault limits entries entry ≡ None) × Stands draft (entries ++ entry ∷ [])
+    × Fits limits (entries ++ entry ∷ []))
     (TellsKind (later_fault limits entries entry))
 
 -- The same of a trimmed line, which may have a fault of its own.
-abbrev pub TakesLine : Limits → List LineContent → List ℕ → Draft → Result (Unit {0}) NotTaken → Type 0
+abbrev pub TakesLine : Limits → List LineContent → List ℕ → Draft → Result (Unit {0}) NotTaken
+    → Type 0
 TakesLine limits entries line draft r =
     MatchResult r
-    (λ _. (kind_of_line limits entries line ≡ None) × Stands draft (entries ++ content_of line ∷ []) × Fits limits (entries ++ content_of line ∷ []))
+    (λ _. (kind_of_line limits entries line ≡ None) × Stands draft (entries ++ content_of line ∷ [])
+    × Fits limits (entries ++ content_of line ∷ []))
     (TellsKind (kind_of_line limits entries line))
 
 -- The draft stands for some lines, and has no more transitions than a u32 counts.

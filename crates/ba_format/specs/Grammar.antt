@@ -32,7 +32,8 @@ onto_lines number (b ∷ bs) lines = record { number = number; text = b ∷ bs }
 -- The lines that aren't blank among these pieces, the first piece having this number.
 abbrev pub lines_from : ℕ → List (List ℕ) → List NumberedLine
 lines_from number [] = []
-lines_from number (piece ∷ pieces) = onto_lines number (trimmed piece) (lines_from (number + 1) pieces)
+lines_from number (piece ∷ pieces) =
+    onto_lines number (trimmed piece) (lines_from (number + 1) pieces)
 
 -- The lines of a text that aren't blank. Lines are numbered from 1, blank ones too.
 -- (Where the text ends in LF, the piece after it is blank.)
@@ -65,12 +66,15 @@ pub data LineContent : Type 0 where
   StateLine : (name : List ℕ) → LineContent
   TransitionLine : (label source target : List ℕ) → LineContent
 
--- What a trimmed line says: with a comma it is a transition line `label,source->target`, without one it is a state line,
--- whose token is the whole line. Blanks at the ends of a token are dropped (CR can't be among them: it is a bad byte).
+-- What a trimmed line says: with a comma it is a transition line `label,source->target`, without
+-- one it is a state line, whose token is the whole line. Blanks at the ends of a token are dropped
+-- (CR can't be among them: it is a bad byte).
 abbrev pub content_of : List ℕ → LineContent
 content_of line =
     if list_any is_comma line then
-    TransitionLine (trimmed (before_first is_comma line)) (trimmed (before_arrow (after_first is_comma line))) (trimmed (after_arrow (after_first is_comma line)))
+    TransitionLine (trimmed (before_first is_comma line))
+    (trimmed (before_arrow (after_first is_comma line)))
+    (trimmed (after_arrow (after_first is_comma line)))
     else
     StateLine line
 

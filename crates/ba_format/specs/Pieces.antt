@@ -14,19 +14,22 @@ use Rattle.ba_format.specs.Grammar.{LineContent, lines_from, lines_in, content_o
 use Rattle.ba_format.specs.Faults.{first_fault, fault_of, contents_of}
 use Rattle.ba_format.specs.Draft.{Stands, Fits}
 
--- The lines that were taken are those of the text before this rest: none has a fault, and the draft stands for what they say. What follows
--- the rest has no part in that.
+-- The lines that were taken are those of the text before this rest: none has a fault, and the draft
+-- stands for what they say. What follows the rest has no part in that.
 pub record AreTaken (lines : Lines) (text rest : List ℕ) : Type 0 where
   pub entries : List LineContent
   pub stands : Stands lines.draft entries
   pub fits : Fits lines.limits entries
   pub faults :
       (more : List ℕ)
-      → first_fault lines.limits entries (lines_from (lines.count + 1) (slice_split is_newline (rest ++ more)))
+      → first_fault lines.limits entries
+      (lines_from (lines.count + 1) (slice_split is_newline (rest ++ more)))
       ≡ first_fault lines.limits [] (lines_in (text ++ more))
   pub says :
       (more : List ℕ)
-      → entries ++ map (λ l. content_of l.text) (lines_from (lines.count + 1) (slice_split is_newline (rest ++ more)))
+      → entries
+      ++ map (λ l. content_of l.text)
+      (lines_from (lines.count + 1) (slice_split is_newline (rest ++ more)))
       ≡ contents_of (text ++ more)
   pub short : lines.count + length rest ≤ length text
   pub few : length entries ≤ lines.count
@@ -40,14 +43,16 @@ abbrev pub TellsFirstFault : List ℕ → Limits → ReadFault → Type 0
 TellsFirstFault text limits (Ba fault) = HasFirstFault text limits fault
 TellsFirstFault text limits OutOfMemory = Unit {0}
 
--- How far the reading of the bytes has come: their lines were taken but for the unfinished one; they have a first fault; or memory was refused.
+-- How far the reading of the bytes has come: their lines were taken but for the unfinished one;
+-- they have a first fault; or memory was refused.
 abbrev pub HasComeTo : Progress → Lines → List ℕ → Limits → List ℕ → Type 0
-HasComeTo Faultless lines line limits bytes = (lines.limits ≡ limits) × AreTaken lines bytes line × IsUnfinished line
+HasComeTo Faultless lines line limits bytes =
+    (lines.limits ≡ limits) × AreTaken lines bytes line × IsUnfinished line
 HasComeTo (Faulty fault) lines line limits bytes = HasFirstFault bytes limits fault
 HasComeTo Refused lines line limits bytes = Unit {0}
 
--- The reader holds what is to be known of these bytes, fed in any pieces, to read them and what follows within these limits. Of one that
--- was refused memory nothing is to be known.
+-- The reader holds what is to be known of these bytes, fed in any pieces, to read them and what
+-- follows within these limits. Of one that was refused memory nothing is to be known.
 abbrev pub HasRead : Reader → Limits → List ℕ → Type 0
 HasRead reader limits bytes = HasComeTo reader.progress reader.lines reader.line.items limits bytes
 

@@ -12,8 +12,10 @@ entry_seen (Transition label source target) = TransitionLine label.now source.no
 
 -- The shape of a line that is cut at its first comma.
 abbrev pub is_cut_shaped : List ℕ → List ℕ → Bool
-is_cut_shaped label rest = not (list_any is_comma rest) && not (nat_lt 0 (arrows label)) && (arrows rest == 1)
+is_cut_shaped label rest =
+    not (list_any is_comma rest) && not (nat_lt 0 (arrows label)) && (arrows rest == 1)
 
 -- What a line says that is cut at its first comma.
 abbrev pub transition_entry : List ℕ → List ℕ → LineContent
-transition_entry label rest = TransitionLine (trimmed label) (trimmed (before_arrow rest)) (trimmed (after_arrow rest))
+transition_entry label rest =
+    TransitionLine (trimmed label) (trimmed (before_arrow rest)) (trimmed (after_arrow rest))

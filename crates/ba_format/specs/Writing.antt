@@ -16,13 +16,18 @@ state_text q = name_text q ++ codes "\n"
 -- The line of a transition: label, source and target.
 abbrev pub transition_text : List (List ℕ) → Trans → List ℕ
 transition_text labels t =
-    slice_index_or labels t.label [] ++ (codes "," ++ (name_text t.source ++ (codes "->" ++ (name_text t.target ++ codes "\n"))))
+    slice_index_or labels t.label []
+    ++ (codes "," ++ (name_text t.source ++ (codes "->" ++ (name_text t.target ++ codes "\n"))))
 
--- The states of the accepting lines. If no state is accepting, it is one more state than there are, since a text without an
--- accepting line would make every state accepting.
+-- The states of the accepting lines. If no state is accepting, it is one more state than there are,
+-- since a text without an accepting line would make every state accepting.
 abbrev pub accepting_written : Automaton → List ℕ
 accepting_written A = if length A.accepting == 0 then A.states ∷ [] else A.accepting
 
--- The initial state's line, the transitions by source, label number and target, and the accepting states' lines, ascending.
+-- The initial state's line, the transitions by source, label number and target, and the accepting
+-- states' lines, ascending.
 abbrev pub written : Automaton → List (List ℕ) → List ℕ
-written A labels = state_text A.initial ++ (flat_map (transition_text labels) A.transitions ++ flat_map state_text (accepting_written A))
+written A labels =
+    state_text A.initial
+    ++ (flat_map (transition_text labels) A.transitions
+    ++ flat_map state_text (accepting_written A))

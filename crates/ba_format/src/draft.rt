@@ -73,9 +73,15 @@ pub(crate) struct Draft {
     pub(crate) opening: Opening,
 }
 
-/// The number of a text: a new one is appended first, unless that would bring more texts than the limit. The fault is then `past`.
+/// The number of a text: a new one is appended first, unless that would bring more texts than the
+/// limit. The fault is then `past`.
 fn number(texts: &mut Texts, text: &[u8], limit: u32, past: BaKind) -> Result<u32, NotTaken>
-    ensures { length texts.old ≤ limit → MatchResult result (λ at. (texts.new ≡ noted same_text texts.old text.now) × (at ≡ place_in same_text texts.new text.now) × (length texts.new ≤ limit)) (PastLimit past limit (length (noted same_text texts.old text.now))) }
+    ensures { length texts.old ≤ limit
+        → MatchResult
+        result (λ at.
+        (texts.new ≡ noted same_text texts.old text.now)
+        × (at ≡ place_in same_text texts.new text.now) × (length texts.new ≤ limit))
+        (PastLimit past limit (length (noted same_text texts.old text.now))) }
 {
     if let Some(at) = texts.find(text) {
         return Ok(at);
@@ -102,7 +108,8 @@ impl Draft {
         }
     }
 
-    /// Notes that a state line with this state came. The first line's state is not accepting, that of every other is.
+    /// Notes that a state line with this state came. The first line's state is not accepting, that
+    /// of every other is.
     fn note_state_line(&mut self, at: u32) -> Result<(), Memory>
         ensures { OnOk result (NotesState self.old at self.new) }
     {
@@ -123,14 +130,16 @@ impl Draft {
 
     /// Takes a state line.
     fn take_state(&mut self, name: &[u8], limits: &Limits) -> Result<(), NotTaken>
-        ensures { (entries : List LineContent) → Stands self.old entries → Fits limits.now entries → Takes limits.now entries (StateLine name.now) self.new result }
+        ensures { (entries : List LineContent) → Stands self.old entries → Fits limits.now entries
+            → Takes limits.now entries (StateLine name.now) self.new result }
     {
         let at = number(&mut self.names, name, limits.states, BaKind::TooManyStates)?;
         self.note_state_line(at)?;
         Ok(())
     }
 
-    /// Notes the transition of a transition line. The result is the number of different transitions.
+    /// Notes the transition of a transition line. The result is the number of different
+    /// transitions.
     fn note_transition(&mut self, source: u32, label: u32, target: u32) -> Result<usize, Memory>
         ensures noted { OnOk result (NotesTransition self.old (source, label, target) self.new) }
         ensures count { IfOk result (λ count. count ≡ length self.new.transitions.keys) }
@@ -148,7 +157,9 @@ impl Draft {
         target: &[u8],
         limits: &Limits,
     ) -> Result<(), NotTaken>
-        ensures { (entries : List LineContent) → Stands self.old entries → Fits limits.now entries → Takes limits.now entries (TransitionLine label.now source.now target.now) self.new result }
+        ensures { (entries : List LineContent) → Stands self.old entries → Fits limits.now entries
+            → Takes limits.now entries (TransitionLine label.now source.now target.now) self.new
+            result }
     {
         if let Opening::States = self.opening {
             return Err(NotTaken::Line(BaKind::TwoInitial));
@@ -179,7 +190,8 @@ impl Draft {
 
     /// Takes a trimmed line that isn't blank.
     pub(crate) fn take(&mut self, line: &[u8], limits: &Limits) -> Result<(), NotTaken>
-        ensures { (entries : List LineContent) → Stands self.old entries → Fits limits.now entries → TakesLine limits.now entries line.now self.new result }
+        ensures { (entries : List LineContent) → Stands self.old entries → Fits limits.now entries
+            → TakesLine limits.now entries line.now self.new result }
     {
         match said_by(line) {
             Err(kind) => Err(NotTaken::Line(kind)),
@@ -193,7 +205,9 @@ impl Draft {
     /// The automaton that the lines say.
     fn automaton(&self, alloc: Global) -> Result<Auto, Memory>
         requires { IsReadyDraft self.now }
-        ensures { IfOk result (λ auto. (entries : List LineContent) → Stands self.now entries → IsAutomatonOf entries auto) }
+        ensures { IfOk
+            result (λ auto.
+            (entries : List LineContent) → Stands self.now entries → IsAutomatonOf entries auto) }
     {
         let transitions = transitions_of(alloc, self.transitions.as_slice())?;
         let accepting = chosen_or_all(alloc, self.accepting.as_slice(), self.names.count())?;
@@ -210,7 +224,9 @@ impl Draft {
     /// The automaton that the lines say, with its names and labels.
     pub(crate) fn into_named(self, alloc: Global) -> Result<Named, Memory>
         requires { IsReadyDraft self }
-        ensures { IfOk result (λ named. (entries : List LineContent) → Stands self entries → IsReading entries named) }
+        ensures { IfOk
+            result (λ named.
+            (entries : List LineContent) → Stands self entries → IsReading entries named) }
     {
         let auto = self.automaton(alloc)?;
         Ok(Named {
@@ -238,7 +254,10 @@ fn transitions_of(alloc: Global, parts: &[(u32, u32, u32)]) -> Result<Vec<Trans>
 
 /// The chosen states; all states if none is chosen.
 fn chosen_or_all(alloc: Global, chosen: &[u32], states: u32) -> Result<Vec<u32>, Memory>
-    ensures { IfOk result (λ accepting. accepting.items ≡ (if length chosen.now == 0 then range_with_len 0 states else chosen.now)) }
+    ensures { IfOk
+        result (λ accepting.
+        accepting.items
+        ≡ (if length chosen.now == 0 then range_with_len 0 states else chosen.now)) }
 {
     if !chosen.is_empty() {
         return Ok(chosen.to_vec(alloc)?);

@@ -28,7 +28,8 @@ fn add_new(joined: &mut Texts, texts: &Texts) -> Result<(), Memory>
 /// The number of each label in the joined list, which has them all.
 fn numbers_in(alloc: Global, labels: &Texts, joined: &Texts) -> Result<Vec<u32>, Memory>
     requires { All (λ label. list_any (same_text label) joined.now ≡ true) labels.now }
-    ensures numbers { IfOk result (λ numbers. numbers.items ≡ map (place_in same_text joined.now) labels.now) }
+    ensures numbers { IfOk
+        result (λ numbers. numbers.items ≡ map (place_in same_text joined.now) labels.now) }
     ensures different { AreDifferent labels.now }
 {
     let mut numbers = Vec::new(alloc);
@@ -44,7 +45,10 @@ fn numbers_in(alloc: Global, labels: &Texts, joined: &Texts) -> Result<Vec<u32>,
 /// The transitions with these numbers for their labels.
 fn with_numbers(alloc: Global, transitions: &[Trans], numbers: &[u32]) -> Result<Vec<Trans>, Memory>
     requires { All (λ t. t.label < length numbers.now) transitions.now }
-    ensures { IfOk result (λ done. done.items ≡ map (λ t. trans t.source (slice_index numbers.now t.label) t.target) transitions.now) }
+    ensures { IfOk
+        result (λ done.
+        done.items ≡ map (λ t. trans t.source (slice_index numbers.now t.label) t.target)
+        transitions.now) }
 {
     let mut done = Vec::new(alloc);
     for step in transitions {

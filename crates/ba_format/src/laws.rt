@@ -32,12 +32,14 @@ pub fn a_written_text_reads()
     ensures { WrittenReads }
 {}
 
-/// A written text brings no more labels and transitions than the automaton has, and one state more at most.
+/// A written text brings no more labels and transitions than the automaton has, and one state more
+/// at most.
 pub fn a_written_text_brings_one_state_more_at_most()
     ensures { WrittenCounts }
 {}
 
-/// A written text has no fault within limits that leave room for the automaton and for one state more.
+/// A written text has no fault within limits that leave room for the automaton and for one state
+/// more.
 pub fn a_written_text_reads_where_there_is_room()
     ensures { WrittenIsRead }
 {}

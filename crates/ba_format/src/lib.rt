@@ -1,4 +1,5 @@
-//! The text format `.ba` of automata: reading, writing, and joining two read automata over common labels.
+//! The text format `.ba` of automata: reading, writing, and joining two read automata over common
+//! labels.
 #![tactic(auto)]
 
 mod draft;

@@ -59,7 +59,10 @@ fn place_of_comma(text: &[u8]) -> Option<usize>
 
 /// The parts of the text before and after its first comma, if it has one.
 fn split_at_comma(text: &[u8]) -> Option<(&[u8], &[u8])>
-    ensures { MatchOption result (list_any is_comma text.now ≡ false) (λ parts. (list_any is_comma text.now ≡ true) × (parts.0.now ≡ before_first is_comma text.now) × (parts.1.now ≡ after_first is_comma text.now)) }
+    ensures { MatchOption result
+        (list_any is_comma text.now ≡ false) (λ parts.
+        (list_any is_comma text.now ≡ true) × (parts.0.now ≡ before_first is_comma text.now)
+        × (parts.1.now ≡ after_first is_comma text.now)) }
 {
     match place_of_comma(text) {
         None => None,
@@ -69,7 +72,10 @@ fn split_at_comma(text: &[u8]) -> Option<(&[u8], &[u8])>
 
 /// The parts of the text before and after its first `->`, if it has one.
 fn split_at_arrow(text: &[u8]) -> Option<(&[u8], &[u8])>
-    ensures { MatchOption result (arrows text.now ≡ 0) (λ parts. (arrows text.now ≡ arrows parts.1.now + 1) × (parts.0.now ≡ before_arrow text.now) × (parts.1.now ≡ after_arrow text.now)) }
+    ensures { MatchOption result
+        (arrows text.now ≡ 0) (λ parts.
+        (arrows text.now ≡ arrows parts.1.now + 1) × (parts.0.now ≡ before_arrow text.now)
+        × (parts.1.now ≡ after_arrow text.now)) }
 {
     for at in 1..text.len() {
         if text[at - 1] == b'-' && text[at] == b'>' {
@@ -96,9 +102,13 @@ fn has_arrow(text: &[u8]) -> bool
     }
 }
 
-/// What a line with a comma says, if it has the shape of one: `label` stands before its first comma, `rest` after it.
+/// What a line with a comma says, if it has the shape of one: `label` stands before its first
+/// comma, `rest` after it.
 fn transition_line<'a>(label: &'a [u8], rest: &'a [u8]) -> Option<Said<'a>>
-    ensures { MatchOption result (is_cut_shaped label.now rest.now ≡ false) (λ said. (is_cut_shaped label.now rest.now ≡ true) × (entry_seen said ≡ transition_entry label.now rest.now)) }
+    ensures { MatchOption result
+        (is_cut_shaped label.now rest.now ≡ false) (λ said.
+        (is_cut_shaped label.now rest.now ≡ true)
+        × (entry_seen said ≡ transition_entry label.now rest.now)) }
 {
     if has_comma(rest) {
         return None;
@@ -120,7 +130,9 @@ fn transition_line<'a>(label: &'a [u8], rest: &'a [u8]) -> Option<Said<'a>>
 
 /// What a line says, if it has the shape of one.
 fn shaped(line: &[u8]) -> Option<Said<'_>>
-    ensures { MatchOption result (is_shaped line.now ≡ false) (λ said. (is_shaped line.now ≡ true) × (entry_seen said ≡ entry_value line.now)) }
+    ensures { MatchOption result
+        (is_shaped line.now ≡ false) (λ said.
+        (is_shaped line.now ≡ true) × (entry_seen said ≡ entry_value line.now)) }
 {
     match split_at_comma(line) {
         Some((label, rest)) => transition_line(label, rest),
@@ -165,7 +177,10 @@ fn fault_of_tokens(said: Said<'_>) -> Option<BaKind>
 
 /// What a trimmed line says, or what is wrong with it by itself.
 pub(crate) fn said_by(line: &[u8]) -> Result<Said<'_>, BaKind>
-    ensures { MatchResult result (λ said. (own_fault line.now ≡ None) × (entry_seen said ≡ entry_value line.now)) (λ kind. own_fault line.now ≡ Some kind) }
+    ensures { MatchResult
+        result (λ said.
+        (own_fault line.now ≡ None) × (entry_seen said ≡ entry_value line.now)) (λ kind.
+        own_fault line.now ≡ Some kind) }
 {
     if has_bad_byte(line) {
         return Err(BaKind::BadByte);

@@ -26,7 +26,8 @@ pub enum BaKind {
     Empty,
     /// The trimmed line has 0x7F or a byte below 0x20 other than a tab.
     BadByte,
-    /// A transition line without exactly one comma and one `->` after it, or a state line with a `->`.
+    /// A transition line without exactly one comma and one `->` after it, or a state line with a
+    /// `->`.
     Shape,
     /// A token of a transition line is empty.
     EmptyToken,
@@ -61,7 +62,8 @@ impl BaKind {
     }
 }
 
-/// The fault of a text: the first faulty line, numbered from 1, and the least kind of fault that it has.
+/// The fault of a text: the first faulty line, numbered from 1, and the least kind of fault that it
+/// has.
 #[derive(Clone, Copy, Debug, PartialEq, Eq)]
 pub struct BaFault {
     /// The line's number, blank lines counted too; 0 for an empty text.

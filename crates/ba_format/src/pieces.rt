@@ -53,7 +53,8 @@ impl Lines {
         }
     }
 
-    /// Takes the whole lines of what comes next in the text, and gives what stands after the last LF.
+    /// Takes the whole lines of what comes next in the text, and gives what stands after the last
+    /// LF.
     fn take_whole<'p>(&mut self, piece: &'p [u8]) -> Result<&'p [u8], ReadFault>
         ensures limits { self.new.limits ≡ self.old.limits }
         ensures unfinished { IfOk result (λ rest. IsUnfinished rest.now) }
@@ -76,9 +77,12 @@ impl Lines {
     fn end(self, alloc: Global, line: &[u8]) -> Result<Named, ReadFault>
         requires text { (text : List ℕ) × AreTaken self text line.now × (length text ≤ 2 ^ 24) }
         requires unfinished { IsUnfinished line.now }
-        ensures named { (text : List ℕ) → AreTaken self text line.now → length text ≤ 2 ^ 24 → IfOk result (Reads text self.limits) }
+        ensures named { (text : List ℕ) → AreTaken self text line.now → length text ≤ 2 ^ 24
+            → IfOk result (Reads text self.limits) }
         ensures within { IfOk result (IsWithinLimits self.limits) }
-        ensures fault { (text : List ℕ) → AreTaken self text line.now → length text ≤ 2 ^ 24 → (fault : AFault) → result ≡ Err (ReadFault.Ba fault) → fault_of text self.limits ≡ Some fault }
+        ensures fault { (text : List ℕ) → AreTaken self text line.now → length text ≤ 2 ^ 24
+            → (fault : AFault) → result ≡ Err (ReadFault.Ba fault)
+            → fault_of text self.limits ≡ Some fault }
     {
         let mut lines = self;
         match lines.take(line) {
@@ -110,7 +114,8 @@ enum Progress {
     Refused,
 }
 
-/// A reader of a text that comes in pieces. It keeps what the whole lines so far brought, and the unfinished line.
+/// A reader of a text that comes in pieces. It keeps what the whole lines so far brought, and the
+/// unfinished line.
 #[derive(Drop)]
 pub struct Reader {
     /// The allocator.
@@ -140,7 +145,8 @@ impl Reader {
         })
     }
 
-    /// Takes the whole lines of the piece, and keeps what stands after the last LF. No line is unfinished.
+    /// Takes the whole lines of the piece, and keeps what stands after the last LF. No line is
+    /// unfinished.
     fn take_lines(&mut self, piece: &[u8]) -> Result<(), ReadFault>
         ensures limits { self.new.lines.limits ≡ self.old.lines.limits }
         ensures progress { self.new.progress ≡ self.old.progress }
@@ -155,7 +161,8 @@ impl Reader {
         Ok(())
     }
 
-    /// Takes the whole lines of the piece, the first after what stands of it already, and keeps what stands after the last LF.
+    /// Takes the whole lines of the piece, the first after what stands of it already, and keeps
+    /// what stands after the last LF.
     fn take(&mut self, piece: &[u8]) -> Result<(), ReadFault>
         ensures limits { self.new.lines.limits ≡ self.old.lines.limits }
         ensures progress { self.new.progress ≡ self.old.progress }
@@ -178,12 +185,15 @@ impl Reader {
         self.take_lines(rest)
     }
 
-    /// Takes the next piece of the text. After a first fault it only counts as read. Where memory is refused, now or before, the reader
-    /// answers want of memory from then on.
+    /// Takes the next piece of the text. After a first fault it only counts as read. Where memory
+    /// is refused, now or before, the reader answers want of memory from then on.
     pub fn feed(&mut self, piece: &[u8]) -> Result<(), Memory>
-        ensures read { (limits : TheLimits) (bytes : List ℕ) → HasRead self.old limits bytes → length bytes + length piece.now ≤ 2 ^ 24 → HasRead self.new limits (bytes ++ piece.now) }
+        ensures read { (limits : TheLimits) (bytes : List ℕ) → HasRead self.old limits bytes
+            → length bytes + length piece.now ≤ 2 ^ 24
+            → HasRead self.new limits (bytes ++ piece.now) }
         ensures refused { OnErr result (ReaderLacksMemory self.new) }
-        ensures not_refused { OnOk result (ReaderLacksMemory self.new → ReaderLacksMemory self.old) }
+        ensures not_refused { OnOk result
+            (ReaderLacksMemory self.new → ReaderLacksMemory self.old) }
         ensures stays_refused { ReaderLacksMemory self.old → IsErr result }
     {
         match self.progress {
@@ -206,11 +216,18 @@ impl Reader {
 
     /// What the pieces read as, or the first fault of their text, which has at most 16 MiB.
     pub fn finish(self) -> Result<Named, ReadFault>
-        requires fed { (limits : TheLimits) × (bytes : List ℕ) × HasRead self limits bytes × (length bytes ≤ 2 ^ 24) }
-        ensures named { (limits : TheLimits) (bytes : List ℕ) → HasRead self limits bytes → length bytes ≤ 2 ^ 24 → IfOk result (Reads bytes limits) }
-        ensures within { (limits : TheLimits) (bytes : List ℕ) → HasRead self limits bytes → length bytes ≤ 2 ^ 24 → IfOk result (IsWithinLimits limits) }
-        ensures fault { (limits : TheLimits) (bytes : List ℕ) → HasRead self limits bytes → length bytes ≤ 2 ^ 24 → (fault : AFault) → result ≡ Err (ReadFault.Ba fault) → fault_of bytes limits ≡ Some fault }
-        ensures found { (limits : TheLimits) (bytes : List ℕ) → HasRead self limits bytes → length bytes ≤ 2 ^ 24 → (fault : AFault) → fault_of bytes limits ≡ Some fault → (result ≡ Err (ReadFault.Ba fault)) ⊎ (result ≡ Err ReadFault.Memory) }
+        requires fed { (limits : TheLimits) × (bytes : List ℕ) × HasRead self limits bytes
+            × (length bytes ≤ 2 ^ 24) }
+        ensures named { (limits : TheLimits) (bytes : List ℕ) → HasRead self limits bytes
+            → length bytes ≤ 2 ^ 24 → IfOk result (Reads bytes limits) }
+        ensures within { (limits : TheLimits) (bytes : List ℕ) → HasRead self limits bytes
+            → length bytes ≤ 2 ^ 24 → IfOk result (IsWithinLimits limits) }
+        ensures fault { (limits : TheLimits) (bytes : List ℕ) → HasRead self limits bytes
+            → length bytes ≤ 2 ^ 24 → (fault : AFault) → result ≡ Err (ReadFault.Ba fault)
+            → fault_of bytes limits ≡ Some fault }
+        ensures found { (limits : TheLimits) (bytes : List ℕ) → HasRead self limits bytes
+            → length bytes ≤ 2 ^ 24 → (fault : AFault) → fault_of bytes limits ≡ Some fault
+            → (result ≡ Err (ReadFault.Ba fault)) ⊎ (result ≡ Err ReadFault.Memory) }
         ensures refused { ReaderLacksMemory self → result ≡ Err ReadFault.Memory }
     {
         match self.progress {

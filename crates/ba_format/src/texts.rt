@@ -9,7 +9,8 @@ use indexmap::IndexSet;
 use std::alloc::Global;
 use std::marker::Model;
 
-/// A list of byte texts, all different, seen by contracts as the list. A text is found in the time that its length takes.
+/// A list of byte texts, all different, seen by contracts as the list. A text is found in the time
+/// that its length takes.
 #[derive(Debug, Drop)]
 pub struct Texts {
     texts: IndexSet<Vec<u8>>,
@@ -73,7 +74,10 @@ impl Texts {
 
     /// The number of a text, if it is there.
     pub(crate) fn find(&self, text: &[u8]) -> Option<u32>
-        ensures { MatchOption result (list_any (same_text text.now) self.now ≡ false) (λ at. (list_any (same_text text.now) self.now ≡ true) × (at ≡ place_in same_text self.now text.now)) }
+        ensures { MatchOption result
+            (list_any (same_text text.now) self.now ≡ false) (λ at.
+            (list_any (same_text text.now) self.now ≡ true)
+            × (at ≡ place_in same_text self.now text.now)) }
     {
         let at = self.texts.get_index_of(text)?;
         Some(at as u32)

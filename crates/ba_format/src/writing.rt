@@ -62,7 +62,8 @@ fn append_transitions(
     Ok(())
 }
 
-/// The text of an automaton: its initial state, its transitions, and its accepting states, or one state more if it has none.
+/// The text of an automaton: its initial state, its transitions, and its accepting states, or one
+/// state more if it has none.
 pub fn write(alloc: Global, auto: &Auto, labels: &Texts) -> Result<List<u8>, Memory>
     requires { auto.now.labels ≤ length labels.now }
     ensures { IfOk result (λ text. text ≡ written auto.now labels.now) }

@@ -1,4 +1,5 @@
-//! Backward simulation with lookahead: the greatest relation, its closure, and what they say of paths that end in a state.
+//! Backward simulation with lookahead: the greatest relation, its closure, and what they say of
+//! paths that end in a state.
 #![tactic(auto)]
 
 pub mod laws;

@@ -34,9 +34,11 @@ pub record Removes (old new : Relation) (p q : ℕ) : Type 0 where
 -- The new relation is the reflexive and transitive closure of the old one on its states.
 pub record IsClosed (old new : Relation) : Type 0 where
   pub size : new.size ≡ old.size
-  pub pairs : (p q : ℕ) → Holds new.pairs p q ↔ ((p < old.size) × (q < old.size) × Close (Holds old.pairs) p q)
+  pub pairs : (p q : ℕ)
+      → Holds new.pairs p q ↔ ((p < old.size) × (q < old.size) × Close (Holds old.pairs) p q)
 
--- The part is on the same states and holds the pairs that the relation holds one way and not the other.
+-- The part is on the same states and holds the pairs that the relation holds one way and not the
+-- other.
 pub record IsStrictPart (whole part : Relation) : Type 0 where
   pub size : part.size ≡ whole.size
   pub pairs : (p q : ℕ) → Holds part.pairs p q ↔ Strict (Holds whole.pairs) p q

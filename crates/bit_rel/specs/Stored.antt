@@ -17,7 +17,8 @@ pairs_below cell n (suc p) = pairs_below cell n p ++ pairs_in_row cell p n
 
 -- The relation that the fields stand for.
 abbrev pub relation_of : Inside → Relation
-relation_of r = record { size = r.count; pairs = pairs_below (cell_of r.table.items r.width) r.count r.count }
+relation_of r =
+    record { size = r.count; pairs = pairs_below (cell_of r.table.items r.width) r.count r.count }
 
 -- The fields fit one another.
 pub record IsStoredRelation (r : Inside) : Type 0 where

@@ -11,8 +11,11 @@ use auto_core::rows;
 fn or_row_within(table: &mut [u64], width: usize, into: usize, from: usize)
     requires into_row { into * width + width ≤ length table.old }
     requires from_row { from * width + width ≤ length table.old }
-    ensures here { (q : ℕ) → q < width * 64 → cell_of table.new width into q ≡ (cell_of table.old width into q || cell_of table.old width from q) }
-    ensures others { (r q : ℕ) → q < width * 64 → ¬ (r ≡ into) → cell_of table.new width r q ≡ cell_of table.old width r q }
+    ensures here { (q : ℕ) → q < width * 64
+        → cell_of table.new width into q
+        ≡ (cell_of table.old width into q || cell_of table.old width from q) }
+    ensures others { (r q : ℕ) → q < width * 64 → ¬ (r ≡ into)
+        → cell_of table.new width r q ≡ cell_of table.old width r q }
 {
     for j in 0..width {
         table[into * width + j] |= table[from * width + j];
@@ -22,7 +25,8 @@ fn or_row_within(table: &mut [u64], width: usize, into: usize, from: usize)
 /// Relates each of the `count` places to itself.
 fn relate_selves(table: &mut [u64], count: u32, width: usize)
     requires { IsTable table.old count width }
-    ensures { (p q : ℕ) → p < count → q < width * 64 → cell_of table.new width p q ≡ (cell_of table.old width p q || p == q) }
+    ensures { (p q : ℕ) → p < count → q < width * 64
+        → cell_of table.new width p q ≡ (cell_of table.old width p q || p == q) }
 {
     for p in 0..count as usize {
         rows::set_cell(table, width, p, p);
@@ -71,12 +75,14 @@ fn first_related(table: &[u64], width: usize, at: usize) -> usize
     at
 }
 
-/// The first place that the place is related to, if it is related to all that the place is related to; otherwise the place itself.
+/// The first place that the place is related to, if it is related to all that the place is related
+/// to; otherwise the place itself.
 fn first_above(table: &[u64], width: usize, at: usize) -> usize
     requires row { at * width + width ≤ length table.now }
     requires few { width < 2 ^ 32 }
     ensures most { result ≤ at }
-    ensures above { (q : ℕ) → q < width * 64 → HasCell table.now width at q → HasCell table.now width result q }
+    ensures above { (q : ℕ) → q < width * 64 → HasCell table.now width at q
+        → HasCell table.now width result q }
 {
     let first = first_related(table, width, at);
     let own = rows::row_at(table, width, at);
@@ -98,14 +104,20 @@ fn has_passed(table: &[u64], width: usize, p: usize, above: usize, via: usize) -
     rows::has_cell(table, width, p, above)
 }
 
-/// Relates the place to all that `via` is related to, if it is related to `via`. That is so already if it is related to the earlier place `above`.
+/// Relates the place to all that `via` is related to, if it is related to `via`. That is so already
+/// if it is related to the earlier place `above`.
 fn pass_row(table: &mut [u64], width: usize, p: usize, above: usize, via: usize)
     requires row { p * width + width ≤ length table.old }
     requires via_row { via * width + width ≤ length table.old }
     requires column { via < width * 64 }
-    requires passed { above < via → HasCell table.old width p above → (q : ℕ) → q < width * 64 → HasCell table.old width via q → HasCell table.old width p q }
-    ensures here { (q : ℕ) → q < width * 64 → cell_of table.new width p q ≡ (cell_of table.old width p q || (cell_of table.old width p via && cell_of table.old width via q)) }
-    ensures others { (r q : ℕ) → q < width * 64 → ¬ (r ≡ p) → cell_of table.new width r q ≡ cell_of table.old width r q }
+    requires passed { above < via → HasCell table.old width p above → (q : ℕ) → q < width * 64
+        → HasCell table.old width via q → HasCell table.old width p q }
+    ensures here { (q : ℕ) → q < width * 64
+        → cell_of table.new width p q
+        ≡ (cell_of table.old width p q
+        || (cell_of table.old width p via && cell_of table.old width via q)) }
+    ensures others { (r q : ℕ) → q < width * 64 → ¬ (r ≡ p)
+        → cell_of table.new width r q ≡ cell_of table.old width r q }
 {
     if !rows::has_cell(table, width, p, via) {
         return;
@@ -116,13 +128,15 @@ fn pass_row(table: &mut [u64], width: usize, p: usize, above: usize, via: usize)
     or_row_within(table, width, p, via);
 }
 
-/// Relates each place that is related to `via` to all that `via` is related to. The table is closed by way of the earlier places.
+/// Relates each place that is related to `via` to all that `via` is related to. The table is closed
+/// by way of the earlier places.
 fn pass_through(table: &mut [u64], count: u32, width: usize, via: usize)
     requires table { IsTable table.old count width }
     requires few { width < 2 ^ 32 }
     requires place { via < count }
     requires itself { HasCell table.old width via via }
-    requires through { (m p q : ℕ) → m < via → HasArc table.old count width p m → HasArc table.old count width m q → HasArc table.old count width p q }
+    requires through { (m p q : ℕ) → m < via → HasArc table.old count width p m
+        → HasArc table.old count width m q → HasArc table.old count width p q }
     ensures { (p q : ℕ) → p < count → q < width * 64
         → cell_of table.new width p q ≡ (cell_of table.old width p q || (cell_of table.old width p via && cell_of table.old width via q)) }
 {
@@ -135,12 +149,15 @@ fn pass_through(table: &mut [u64], count: u32, width: usize, via: usize)
     }
 }
 
-/// Makes the table of `count` rows its reflexive and transitive closure: chains by way of ever more places (Warshall).
+/// Makes the table of `count` rows its reflexive and transitive closure: chains by way of ever more
+/// places (Warshall).
 pub fn close_table(table: &mut [u64], count: u32, width: usize)
     requires table { IsTable table.old count width }
     requires few { width < 2 ^ 32 }
     ensures table { IsTable table.new count width }
-    ensures closed { (p q : ℕ) → HasArc table.new count width p q ↔ ((p < count) × (q < count) × Close (HasArc table.old count width) p q) }
+    ensures closed { (p q : ℕ)
+        → HasArc table.new count width p q
+        ↔ ((p < count) × (q < count) × Close (HasArc table.old count width) p q) }
 {
     relate_selves(table, count, width);
     for via in 0..count as usize {

@@ -10,7 +10,8 @@ use auto_core::{Memory, rows};
 use std::alloc::Global;
 use std::marker::Model;
 
-/// A relation on the states below a number. Contracts see it as a `Relation`: that number and the list of the pairs, ascending.
+/// A relation on the states below a number. Contracts see it as a `Relation`: that number and the
+/// list of the pairs, ascending.
 #[derive(Debug, Drop)]
 pub struct Rel {
     count: u32,
@@ -134,7 +135,9 @@ impl Rel {
         requires equal { part.old.size ≡ self.now.size }
         requires left { p < self.now.size }
         ensures size { part.new.size ≡ part.old.size }
-        ensures pairs { (r s : ℕ) → Holds part.new.pairs r s ↔ (Holds part.old.pairs r s ⊎ ((r ≡ p) × Strict (Holds self.now.pairs) r s)) }
+        ensures pairs { (r s : ℕ)
+            → Holds part.new.pairs r s
+            ↔ (Holds part.old.pairs r s ⊎ ((r ≡ p) × Strict (Holds self.now.pairs) r s)) }
     {
         for q in 0..self.size() {
             if self.strictly(p, q) {

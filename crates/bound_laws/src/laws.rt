@@ -2,12 +2,14 @@
 
 ghost use Rattle.bound_laws.specs.Bounds.{BoundsRise, ListedPairsAreFew, ListedSupergraphsAreFew, PairsAreFew, SupergraphsAreFew};
 
-/// Pairwise different supergraphs are no more than the bound for as many states as the automata have, or for more.
+/// Pairwise different supergraphs are no more than the bound for as many states as the automata
+/// have, or for more.
 pub fn supergraphs_are_few()
     ensures { SupergraphsAreFew }
 {}
 
-/// Pairwise different pairs of a state and a set are no more than the bound on pairs, in the same way.
+/// Pairwise different pairs of a state and a set are no more than the bound on pairs, in the same
+/// way.
 pub fn pairs_are_few()
     ensures { PairsAreFew }
 {}

@@ -1,5 +1,5 @@
-//! How many supergraphs, and how many pairs of a state and a set, two automata have at most: each law is the contract of a
-//! function that does nothing.
+//! How many supergraphs, and how many pairs of a state and a set, two automata have at most: each
+//! law is the contract of a function that does nothing.
 #![tactic(auto)]
 
 mod laws;

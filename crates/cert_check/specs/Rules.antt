@@ -30,9 +30,11 @@ AreLabels labels word = All (λ a. a < labels) word
 -- The sizes are those of the two read automata and of their joined labels.
 abbrev pub HasSizes : Joined → Cert → Type 0
 HasSizes pair cert =
-    (cert.first_states ≡ pair.first.states) × (cert.second_states ≡ pair.second.states) × (cert.labels ≡ length pair.labels)
+    (cert.first_states ≡ pair.first.states) × (cert.second_states ≡ pair.second.states)
+    × (cert.labels ≡ length pair.labels)
 
--- A lasso that is said to separate: its letters are labels, the first automaton accepts it and the second does not.
+-- A lasso that is said to separate: its letters are labels, the first automaton accepts it and the
+-- second does not.
 abbrev pub lasso_checks : Joined → Lasso → List RuleCheck
 lasso_checks pair lasso =
     rule_at 1 1 (AreLabels (length pair.labels) lasso.prefix)
@@ -49,34 +51,45 @@ word_checks pair word =
     ∷ rule_at 17 1 (AcceptsWord pair.second word → ⊥)
     ∷ []
 
--- The steps of both logs keep their rules, and these checks, from the item after the steps on, hold of the two automata that the logs
--- lead to.
-pub record HoldsAfterLogs (mode : Mode) (pair : Joined) (firsts : List FirstStep) (seconds : List SecondStep) (checks : ℕ → Automaton → Automaton → List RuleCheck) : Type 0 where
+-- The steps of both logs keep their rules, and these checks, from the item after the steps on, hold
+-- of the two automata that the logs lead to.
+pub record HoldsAfterLogs (mode : Mode) (pair : Joined) (firsts : List FirstStep)
+    (seconds : List SecondStep) (checks : ℕ → Automaton → Automaton → List RuleCheck) : Type 0 where
   pub ends : Ends
   pub logs : AreEnds mode pair.first pair.second firsts seconds ends
   pub hold : AllHold (checks (item_after firsts seconds) ends.first ends.second)
 
--- The refusal is the first rule that a step of the logs breaks, or the first of these checks that does not hold where none does.
-abbrev pub BreaksAfterLogs : Mode → Joined → List FirstStep → List SecondStep → (ℕ → Automaton → Automaton → List RuleCheck) → Refusal → Type 0
+-- The refusal is the first rule that a step of the logs breaks, or the first of these checks that
+-- does not hold where none does.
+abbrev pub BreaksAfterLogs : Mode → Joined → List FirstStep → List SecondStep
+    → (ℕ → Automaton → Automaton → List RuleCheck) → Refusal → Type 0
 BreaksAfterLogs mode pair firsts seconds checks refusal =
     LogsBreak mode pair.first pair.second firsts seconds refusal
     ⊎ ((ends : Ends)
     × AreEnds mode pair.first pair.second firsts seconds ends
     × FirstBroken (checks (item_after firsts seconds) ends.first ends.second) refusal)
 
--- A test of logs and of what comes after them: all is kept, or the refusal is the first rule that is broken. Memory may be refused.
-abbrev pub TellsAfterLogs : Mode → Joined → List FirstStep → List SecondStep → (ℕ → Automaton → Automaton → List RuleCheck) → Result (Unit {0}) CheckFault → Type 0
-TellsAfterLogs mode pair firsts seconds checks (Ok x) = HoldsAfterLogs mode pair firsts seconds checks
-TellsAfterLogs mode pair firsts seconds checks (Err (Refused refusal)) = BreaksAfterLogs mode pair firsts seconds checks refusal
+-- A test of logs and of what comes after them: all is kept, or the refusal is the first rule that
+-- is broken. Memory may be refused.
+abbrev pub TellsAfterLogs : Mode → Joined → List FirstStep → List SecondStep
+    → (ℕ → Automaton → Automaton → List RuleCheck) → Result (Unit {0}) CheckFault → Type 0
+TellsAfterLogs mode pair firsts seconds checks (Ok x) =
+    HoldsAfterLogs mode pair firsts seconds checks
+TellsAfterLogs mode pair firsts seconds checks (Err (Refused refusal)) =
+    BreaksAfterLogs mode pair firsts seconds checks refusal
 TellsAfterLogs mode pair firsts seconds checks (Err Memory) = Unit {0}
 
--- A yes keeps its rules: the steps of both logs keep theirs, and then the evidence keeps those on the two automata that the logs lead to.
+-- A yes keeps its rules: the steps of both logs keep theirs, and then the evidence keeps those on
+-- the two automata that the logs lead to.
 abbrev pub YesHolds : Mode → Joined → YesBody → Type 0
-YesHolds mode pair evidence = HoldsAfterLogs mode pair evidence.first evidence.second (inclusion_checks mode evidence)
+YesHolds mode pair evidence =
+    HoldsAfterLogs mode pair evidence.first evidence.second (inclusion_checks mode evidence)
 
--- A list keeps its rules: the steps of both logs keep theirs, and then its elements keep those on the two automata that the logs lead to.
+-- A list keeps its rules: the steps of both logs keep theirs, and then its elements keep those on
+-- the two automata that the logs lead to.
 abbrev pub ListHolds : Mode → Joined → ListBody → Type 0
-ListHolds mode pair list = HoldsAfterLogs mode pair list.first list.second (listing_checks mode list)
+ListHolds mode pair list =
+    HoldsAfterLogs mode pair list.first list.second (listing_checks mode list)
 
 -- The body keeps its rules.
 abbrev pub BodyHolds : Mode → Joined → Body → Type 0
@@ -87,10 +100,13 @@ BodyHolds mode pair (Listing list) = ListHolds mode pair list
 
 -- The refusal is the first rule that the body breaks.
 abbrev pub BodyBreaks : Mode → Joined → Body → Refusal → Type 0
-BodyBreaks mode pair (Yes evidence) refusal = BreaksAfterLogs mode pair evidence.first evidence.second (inclusion_checks mode evidence) refusal
+BodyBreaks mode pair (Yes evidence) refusal =
+    BreaksAfterLogs mode pair evidence.first evidence.second (inclusion_checks mode evidence)
+    refusal
 BodyBreaks mode pair (NoLasso lasso) refusal = FirstBroken (lasso_checks pair lasso) refusal
 BodyBreaks mode pair (NoWord word) refusal = FirstBroken (word_checks pair word) refusal
-BodyBreaks mode pair (Listing list) refusal = BreaksAfterLogs mode pair list.first list.second (listing_checks mode list) refusal
+BodyBreaks mode pair (Listing list) refusal =
+    BreaksAfterLogs mode pair list.first list.second (listing_checks mode list) refusal
 
 -- A certificate keeps all its rules for these automata.
 abbrev pub KeepsRules : Joined → Cert → Type 0
@@ -109,8 +125,8 @@ IsVerdictOf (NoLasso lasso) verdict = verdict ≡ Apart lasso
 IsVerdictOf (NoWord word) verdict = verdict ≡ ApartWord word
 IsVerdictOf (Listing body) verdict = verdict ≡ Listed body.limit
 
--- What a list shows: both logs lead to two automata, and it has so many pairwise different supergraphs of these, in finite mode pairs of a
--- state and a set.
+-- What a list shows: both logs lead to two automata, and it has so many pairwise different
+-- supergraphs of these, in finite mode pairs of a state and a set.
 pub record ListsDifferent (mode : Mode) (pair : Joined) (count : ℕ) (list : ListBody) : Type 0 where
   pub ends : Ends
   pub logs : AreEnds mode pair.first pair.second list.first list.second ends
@@ -118,10 +134,12 @@ pub record ListsDifferent (mode : Mode) (pair : Joined) (count : ℕ) (list : Li
 
 -- The certificate is a list, and shows limit + 1 different ones.
 abbrev pub ListsPastLimit : Joined → Cert → ℕ → Type 0
-ListsPastLimit pair cert limit = (list : ListBody) × (cert.body ≡ Listing list) × ListsDifferent cert.mode pair (limit + 1) list
+ListsPastLimit pair cert limit =
+    (list : ListBody) × (cert.body ≡ Listing list) × ListsDifferent cert.mode pair (limit + 1) list
 
--- What a verdict on the certificate says: of the lassos of the two automata, in finite mode of their words, and where the certificate is a
--- list, of the supergraphs of the automata that its logs lead to.
+-- What a verdict on the certificate says: of the lassos of the two automata, in finite mode of
+-- their words, and where the certificate is a list, of the supergraphs of the automata that its
+-- logs lead to.
 abbrev pub SaysTruly : Joined → Cert → Verdict → Type 0
 SaysTruly pair cert Included = Includes pair.first pair.second cert.mode
 SaysTruly pair cert (Apart lasso) = SeparatesLasso pair.first pair.second lasso.prefix lasso.turn

@@ -1,4 +1,5 @@
--- What the check holds of a certificate's elements: of each the arc, and its word's graph, in finite mode its word's set.
+-- What the check holds of a certificate's elements: of each the arc, and its word's graph, in
+-- finite mode its word's set.
 use Rattle.std.specs.Prelude.{◌≡◌, ℕ, ◌+◌, ◌*◌, ◌/◌, ◌^◌, ◌<◌, ◌↔◌, Bool, true, false, List, [], ◌∷◌, ◌++◌, length, slice_index_or}
 use Rattle.std.specs.BTreeSet.{BTreeSet, contains}
 use Rattle.std.specs.Cmp.Lexicographic.{slice_cmp}
@@ -25,7 +26,8 @@ use Rattle.cert_check.specs.declared.blocks.Numbered.{Numbered}
 use Rattle.cert_check.specs.declared.elements.Supers.{Supers}
 use Rattle.cert_check.specs.declared.orders.Order.{Order}
 
--- The words of a block over n states: of two planes of rows for a graph, in finite mode of the one row of a set.
+-- The words of a block over n states: of two planes of rows for a graph, in finite mode of the one
+-- row of a set.
 abbrev pub block_len : Mode → ℕ → ℕ
 block_len Buchi n = 2 * n * width_of n
 block_len Finite n = (n + 63) / 64
@@ -55,27 +57,31 @@ HasWord Buchi B block w = SameGraph (block_graph B.states block) (graph_of B w)
 HasWord Finite B block w = (q : ℕ) → HasBit block q ↔ set_of B w q
 
 -- The arc is that of x, and the block has what its word leads to.
-pub record StandFor (mode : Mode) (A B : Automaton) (held : Arc) (block : List ℕ) (x : WordArc) : Type 0 where
+pub record StandFor (mode : Mode) (A B : Automaton) (held : Arc) (block : List ℕ)
+    (x : WordArc) : Type 0 where
   pub real : IsArcIn mode A x
   pub arc : with_word held x.word ≡ x
   pub formed : IsBlock mode B.states block
   pub word : HasWord mode B block x.word
 
--- The graph with this number, in finite mode the set, stands with the arc for x. The graphs that were there are there still.
-pub record IsGraphNumbered (mode : Mode) (A B : Automaton) (old now : Graphs) (x : WordArc) (numbered : Numbered) : Type 0 where
+-- The graph with this number, in finite mode the set, stands with the arc for x. The graphs that
+-- were there are there still.
+pub record IsGraphNumbered (mode : Mode) (A B : Automaton) (old now : Graphs) (x : WordArc)
+    (numbered : Numbered) : Type 0 where
   pub stock : IsStockIn mode B now
   pub grown : HasGrown old.graphs.items now.graphs.items
   pub within : numbered.number < length now.graphs.items
   pub stands : StandFor mode A B numbered.arc (block_at now.graphs.items numbered.number) x
 
--- The graph with the number k, in finite mode the set, is that of a word with this label behind it where the one with the number n is
--- the word's. The graphs that were there are there still.
+-- The graph with the number k, in finite mode the set, is that of a word with this label behind it
+-- where the one with the number n is the word's. The graphs that were there are there still.
 pub record IsLonger (mode : Mode) (B : Automaton) (old now : Graphs) (n label k : ℕ) : Type 0 where
   pub stock : IsStockIn mode B now
   pub grown : HasGrown old.graphs.items now.graphs.items
   pub within : k < length now.graphs.items
   pub formed : IsBlock mode B.states (block_at now.graphs.items k)
-  pub word : (w : List ℕ) → HasWord mode B (block_at old.graphs.items n) w → HasWord mode B (block_at now.graphs.items k) (w ++ label ∷ [])
+  pub word : (w : List ℕ) → HasWord mode B (block_at old.graphs.items n) w
+      → HasWord mode B (block_at now.graphs.items k) (w ++ label ∷ [])
 
 -- The arc of the element with this number.
 abbrev pub held_arc : Supers → ℕ → Arc
@@ -94,27 +100,31 @@ abbrev pub held_block : Supers → ℕ → List ℕ
 held_block supers e = block_at supers.graphs.graphs.items (held_number supers e)
 
 -- The arcs and blocks of the first n of the elements.
-pub record AreSupers (mode : Mode) (A B : Automaton) (elements : List Element) (n : ℕ) (supers : Supers) : Type 0 where
+pub record AreSupers (mode : Mode) (A B : Automaton) (elements : List Element) (n : ℕ)
+    (supers : Supers) : Type 0 where
   pub count : length supers.arcs.items ≡ n
   pub size : length supers.numbers.items ≡ n
   pub stock : IsStockIn mode B supers.graphs
   pub within : (e : ℕ) → e < n → held_number supers e < length supers.graphs.graphs.items
-  pub each : (e : ℕ) → e < n → StandFor mode A B (held_arc supers e) (held_block supers e) (arc_at A (element_arcs A elements) e)
+  pub each : (e : ℕ) → e < n
+      → StandFor mode A B (held_arc supers e) (held_block supers e)
+      (arc_at A (element_arcs A elements) e)
 
 -- The word for a flag.
 abbrev pub flag_word : Bool → ℕ
 flag_word false = 0
 flag_word true = 1
 
--- By what elements are compared: the first number of the graph, in finite mode of the set, and the ends and the flag of the arc, in finite
--- mode its end alone, with 0 in the other places.
+-- By what elements are compared: the first number of the graph, in finite mode of the set, and the
+-- ends and the flag of the arc, in finite mode its end alone, with 0 in the other places.
 abbrev pub key_of : Mode → Arc → ℕ → List ℕ
 key_of Buchi arc first = first ∷ arc.from ∷ arc.to ∷ flag_word arc.accepting ∷ []
 key_of Finite arc first = first ∷ 0 ∷ arc.to ∷ 0 ∷ []
 
 -- The key of the element with this number.
 abbrev pub key_at : Mode → Supers → List ℕ → ℕ → List ℕ
-key_at mode supers firsts e = key_of mode (held_arc supers e) (slice_index_or firsts (held_number supers e) 0)
+key_at mode supers firsts e =
+    key_of mode (held_arc supers e) (slice_index_or firsts (held_number supers e) 0)
 
 -- The words fit in 64 bits.
 abbrev pub Fit : List ℕ → Type 0
@@ -131,7 +141,9 @@ has_key keys key = contains (slice_cmp nat_cmp) keys key
 abbrev pub HasKey : BTreeSet Key → Key → Type 0
 HasKey keys key = has_key keys key ≡ true
 
--- The relation is the certificate's, and what is remembered of graphs that cover others by it is so.
-pub record IsEvidenceOrder (B : Automaton) (evidence : YesBody) (graphs : List (List ℕ)) (order : Order) : Type 0 where
+-- The relation is the certificate's, and what is remembered of graphs that cover others by it is
+-- so.
+pub record IsEvidenceOrder (B : Automaton) (evidence : YesBody) (graphs : List (List ℕ))
+    (order : Order) : Type 0 where
   pub relation : IsBlockRelation B.states evidence.order order.rel
   pub covers : AllTold (FitsCovering B.states order.rel.pairs graphs) order.covers.told.items

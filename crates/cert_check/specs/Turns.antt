@@ -1,4 +1,5 @@
--- The turns of a certificate, by the states that they are at and by their graphs, and what is remembered of the tests of pairs.
+-- The turns of a certificate, by the states that they are at and by their graphs, and what is
+-- remembered of the tests of pairs.
 use Rattle.std.specs.Prelude.{◌≡◌, ℕ, ◌<◌, ◌⊎◌, true, List, [], ◌∷◌, ◌++◌, length, Contains, Vec}
 use Rattle.std.specs.declared.alloc.Global.{Global}
 use Rattle.std.specs.BTreeSet.{BTreeSet}
@@ -29,8 +30,10 @@ pub record IsTurnAt (evidence : YesBody) (supers : Supers) (n p g : ℕ) : Type 
   pub state : (held_arc supers element).from ≡ p
   pub graph : held_number supers element ≡ g
 
--- The table lists for each of the states just the graphs of the turns at it, of the first n elements.
-pub record AreTurns (evidence : YesBody) (supers : Supers) (n states : ℕ) (turns : List (Vec ℕ Global)) : Type 0 where
+-- The table lists for each of the states just the graphs of the turns at it, of the first n
+-- elements.
+pub record AreTurns (evidence : YesBody) (supers : Supers) (n states : ℕ)
+    (turns : List (Vec ℕ Global)) : Type 0 where
   pub count : length turns ≡ states
   pub only : (p g : ℕ) → Contains (numbers_at turns p) g → IsTurnAt evidence supers n p g
   pub all : (p g : ℕ) → IsTurnAt evidence supers n p g → Contains (numbers_at turns p) g
@@ -43,21 +46,28 @@ pub record HasAddedAt (old new : List (Vec ℕ Global)) (place number : ℕ) : T
 
 -- Each key that was seen is that of a state and a graph that is listed at it.
 abbrev pub AreListedAtStates : BTreeSet Key → List (Vec ℕ Global) → Type 0
-AreListedAtStates seen turns = (key : Key) (p g : ℕ) → HasKey seen key → key ≡ p ∷ g ∷ [] → Contains (numbers_at turns p) g
+AreListedAtStates seen turns =
+    (key : Key) (p g : ℕ) → HasKey seen key → key ≡ p ∷ g ∷ [] → Contains (numbers_at turns p) g
 
 -- The graph has a lasso with each of the others, from the second automaton's initial state.
 abbrev pub HasLassos : Automaton → List (List ℕ) → ℕ → List ℕ → Type 0
 HasLassos B graphs g others =
-    (h : ℕ) → Contains others h → LassoIn (block_graph B.states (block_at graphs g)) (block_graph B.states (block_at graphs h)) B.initial
+    (h : ℕ) → Contains others h
+    → LassoIn (block_graph B.states (block_at graphs g))
+    (block_graph B.states (block_at graphs h)) B.initial
 
 -- The table has for each graph no row, or that of the states from which the graph has a loop.
 abbrev pub AreLoops : ℕ → List (List ℕ) → List (Vec ℕ Global) → Type 0
-AreLoops n graphs loops = (h : ℕ) → (numbers_at loops h ≡ []) ⊎ IsLoopRow n (block_graph n (block_at graphs h)) (numbers_at loops h)
+AreLoops n graphs loops =
+    (h : ℕ) → (numbers_at loops h ≡ [])
+    ⊎ IsLoopRow n (block_graph n (block_at graphs h)) (numbers_at loops h)
 
--- What is remembered of tests is so: each key is that of a state and a graph that has a lasso with each of those listed at the state. There
--- is room for further tests.
-pub record AreTests (B : Automaton) (graphs : List (List ℕ)) (turns : List (Vec ℕ Global)) (tests : Tests) : Type 0 where
-  pub passed : (key : Key) (p g : ℕ) → HasKey tests.passed key → key ≡ p ∷ g ∷ [] → HasLassos B graphs g (numbers_at turns p)
+-- What is remembered of tests is so: each key is that of a state and a graph that has a lasso with
+-- each of those listed at the state. There is room for further tests.
+pub record AreTests (B : Automaton) (graphs : List (List ℕ)) (turns : List (Vec ℕ Global))
+    (tests : Tests) : Type 0 where
+  pub passed : (key : Key) (p g : ℕ) → HasKey tests.passed key → key ≡ p ∷ g ∷ []
+      → HasLassos B graphs g (numbers_at turns p)
   pub loops : AreLoops B.states graphs tests.loops.items
   pub size : length tests.loops.items ≡ length graphs
   pub room : tests.scratch ≡ B.states

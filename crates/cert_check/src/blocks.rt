@@ -1,5 +1,5 @@
-//! What the check holds of an element beside its arc: the graph of its word, in finite mode the word's set. Each different one is kept
-//! once, with a number.
+//! What the check holds of an element beside its arc: the graph of its word, in finite mode the
+//! word's set. Each different one is kept once, with a number.
 
 ghost use Rattle.std.specs.Prelude.{◌≡◌, ◌<◌, ◌↔◌, ℕ, [], length, vec_len, IfOk, IsTrue};
 ghost use Rattle.auto_core.specs.Automaton.{Automaton, trans_at};
@@ -68,7 +68,8 @@ pub fn start(
     graphs: &mut Graphs,
 ) -> Result<Numbered, Memory>
     requires { IsStockIn Finite second.now graphs.old }
-    ensures { IfOk result (IsGraphNumbered Finite first.now second.now graphs.old graphs.new (start_arc first.now)) }
+    ensures { IfOk result
+        (IsGraphNumbered Finite first.now second.now graphs.old graphs.new (start_arc first.now)) }
 {
     let set = start_set(alloc, second)?;
     let number = graphs.number_of(&set)?;
@@ -80,7 +81,9 @@ pub fn start(
 pub fn base(first: &Auto, second: &Auto, t: u32, graphs: &mut Graphs) -> Result<Numbered, Memory>
     requires number { t < length first.now.transitions }
     requires stock { IsStockIn Buchi second.now graphs.old }
-    ensures { IfOk result (IsGraphNumbered Buchi first.now second.now graphs.old graphs.new (base_arc first.now (trans_at first.now t))) }
+    ensures { IfOk result
+        (IsGraphNumbered Buchi first.now second.now graphs.old graphs.new
+        (base_arc first.now (trans_at first.now t))) }
 {
     let label = first.transitions()[t as usize].label;
     let number = graphs.letter(second, label)?;
@@ -92,7 +95,9 @@ pub fn base(first: &Auto, second: &Auto, t: u32, graphs: &mut Graphs) -> Result<
 fn set_behind(alloc: Global, second: &Auto, from: &[u64], label: u32) -> Result<Vec<u64>, Memory>
     requires { IsRow second.now.states from.now }
     ensures row { IfOk result (λ set. IsRow second.now.states set.items) }
-    ensures members { IfOk result (λ set. (q : ℕ) → HasBit set.items q ↔ set_after second.now (HasBit from.now) label q) }
+    ensures members { IfOk
+        result (λ set.
+        (q : ℕ) → HasBit set.items q ↔ set_after second.now (HasBit from.now) label q) }
 {
     let mut set = empty_set(alloc, second.states())?;
     set_rows::write_after(second, label, from, &mut set);
@@ -147,7 +152,8 @@ pub fn extend(
     requires number { t < length first.now.transitions }
     requires leaves { (trans_at first.now t).source ≡ from.arc.to }
     requires stock { IsStockIn mode second.now graphs.old }
-    requires formed { IsBlock mode second.now.states (block_at graphs.old.graphs.items from.number) }
+    requires formed { IsBlock mode second.now.states
+        (block_at graphs.old.graphs.items from.number) }
     ensures { IfOk result (λ longer. (x : WordArc) → StandFor mode first.now second.now from.arc (block_at graphs.old.graphs.items from.number) x
         → IsGraphNumbered mode first.now second.now graphs.old graphs.new (extended_arc first.now x (trans_at first.now t)) longer) }
 {
@@ -177,9 +183,11 @@ pub fn subsumes(
 ) -> bool
     requires first { IsBlock mode order.old.rel.size (block_at graphs.now.items x.now.number) }
     requires second { IsBlock mode order.old.rel.size (block_at graphs.now.items y.now.number) }
-    requires covers { AllTold (FitsCovering order.old.rel.size order.old.rel.pairs graphs.now.items) order.old.covers.told.items }
+    requires covers { AllTold (FitsCovering order.old.rel.size order.old.rel.pairs graphs.now.items)
+        order.old.covers.told.items }
     ensures relation { order.new.rel ≡ order.old.rel }
-    ensures covers { AllTold (FitsCovering order.old.rel.size order.old.rel.pairs graphs.now.items) order.new.covers.told.items }
+    ensures covers { AllTold (FitsCovering order.old.rel.size order.old.rel.pairs graphs.now.items)
+        order.new.covers.told.items }
     ensures told { (A B : Automaton) (v w : WordArc) → B.states ≡ order.old.rel.size
         → StandFor mode A B x.now.arc (block_at graphs.now.items x.now.number) v → StandFor mode A B y.now.arc (block_at graphs.now.items y.now.number) w
         → IsTrue result ↔ SubsumesIn mode B order.old.rel.pairs v w }

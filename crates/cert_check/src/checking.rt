@@ -56,30 +56,34 @@ fn next_item(mode: Mode, firsts: &List<FirstStep>, seconds: &List<SecondStep>) -
     1 + firsts.as_slice().len() as u32 + seconds.as_slice().len() as u32
 }
 
-/// Tests a yes: its logs, and then its evidence on the automata that they lead to, whose items come after those of the logs' steps.
+/// Tests a yes: its logs, and then its evidence on the automata that they lead to, whose items come
+/// after those of the logs' steps.
 fn check_yes(alloc: Global, pair: &Joined, mode: Mode, evidence: &YesBody) -> Result<(), CheckFault>
     requires formed { (version : ℕ) × (is_yes version mode evidence.now ≡ true) }
-    ensures { TellsAfterLogs mode pair.now evidence.now.first evidence.now.second (inclusion_checks mode evidence.now) result }
+    ensures { TellsAfterLogs mode pair.now evidence.now.first evidence.now.second
+        (inclusion_checks mode evidence.now) result }
 {
     let ends = ends_of(alloc, pair, mode, &evidence.first, &evidence.second)?;
     let item = next_item(mode, &evidence.first, &evidence.second);
     inclusion::check_inclusion(alloc, mode, &ends.first, &ends.second, evidence, item)
 }
 
-/// Tests a list: its logs, and then its elements on the automata that they lead to. The item of its limit comes after those of the logs'
-/// steps.
+/// Tests a list: its logs, and then its elements on the automata that they lead to. The item of its
+/// limit comes after those of the logs' steps.
 fn check_list(alloc: Global, pair: &Joined, mode: Mode, list: &ListBody) -> Result<(), CheckFault>
     requires formed { (version : ℕ) × (is_listing version mode list.now ≡ true) }
-    ensures { TellsAfterLogs mode pair.now list.now.first list.now.second (listing_checks mode list.now) result }
+    ensures { TellsAfterLogs mode pair.now list.now.first list.now.second
+        (listing_checks mode list.now) result }
 {
     let ends = ends_of(alloc, pair, mode, &list.first, &list.second)?;
     let item = next_item(mode, &list.first, &list.second);
     listing::check_listing(alloc, mode, &ends.first, &ends.second, list, item)
 }
 
-/// The verdict of a certificate that is valid for the two automata, or the first rule that it breaks, or want of memory. What a verdict
-/// says is true of the two automata, and what a list's says, of those that its logs lead to. The certificate is well-formed; both
-/// automata have as many labels as `pair.labels` has texts.
+/// The verdict of a certificate that is valid for the two automata, or the first rule that it
+/// breaks, or want of memory. What a verdict says is true of the two automata, and what a list's
+/// says, of those that its logs lead to. The certificate is well-formed; both automata have as many
+/// labels as `pair.labels` has texts.
 pub fn check(alloc: Global, pair: &Joined, cert: &Cert) -> Result<Verdict, CheckFault>
     requires well_formed { WellFormed cert.now }
     requires first_labels { pair.now.first.labels ≡ length pair.now.labels }
@@ -87,7 +91,8 @@ pub fn check(alloc: Global, pair: &Joined, cert: &Cert) -> Result<Verdict, Check
     ensures valid { IfOk result (λ verdict. KeepsRules pair.now cert.now) }
     ensures verdict { IfOk result (IsVerdictOf cert.now.body) }
     ensures truth { IfOk result (SaysTruly pair.now cert.now) }
-    ensures refused { (refusal : Refusal) → result ≡ Err (CheckFault.Refused refusal) → BreaksRule pair.now cert.now refusal }
+    ensures refused { (refusal : Refusal) → result ≡ Err (CheckFault.Refused refusal)
+        → BreaksRule pair.now cert.now refusal }
 {
     if !has_sizes(pair, cert) {
         return Err(CheckFault::Refused(Refusal { rule: 1, item: 0 }));

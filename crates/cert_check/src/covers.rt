@@ -1,4 +1,5 @@
-//! The elements over others: those that are over dropped ones, and those over the arcs that the cover is for.
+//! The elements over others: those that are over dropped ones, and those over the arcs that the
+//! cover is for.
 
 ghost use Rattle.std.specs.Prelude.{◌≡◌, ◌+◌, ◌^◌, ◌<◌, ◌↔◌, ℕ, length, slice_index_or, true, IsTrue, IfOk};
 ghost use Rattle.auto_core.specs.Automaton.{trans_at};
@@ -37,13 +38,17 @@ pub fn is_over(
     j: u32,
     it: &Numbered,
 ) -> bool
-    requires supers { AreSupers mode first.now second.now evidence.now.elements (length evidence.now.elements) supers.now }
-    requires order { IsEvidenceOrder second.now evidence.now supers.now.graphs.graphs.items order.old }
+    requires supers { AreSupers mode first.now second.now evidence.now.elements
+        (length evidence.now.elements) supers.now }
+    requires order { IsEvidenceOrder second.now evidence.now supers.now.graphs.graphs.items
+        order.old }
     requires element { j < length evidence.now.elements }
-    requires formed { IsBlock mode second.now.states (block_at supers.now.graphs.graphs.items it.now.number) }
+    requires formed { IsBlock mode second.now.states
+        (block_at supers.now.graphs.graphs.items it.now.number) }
     ensures told { (x : WordArc) → StandFor mode first.now second.now it.now.arc (block_at supers.now.graphs.graphs.items it.now.number) x
         → IsTrue result ↔ IsOver mode first.now second.now evidence.now j x }
-    ensures order { IsEvidenceOrder second.now evidence.now supers.now.graphs.graphs.items order.new }
+    ensures order { IsEvidenceOrder second.now evidence.now supers.now.graphs.graphs.items
+        order.new }
 {
     if !is_live(evidence, j) {
         return false;
@@ -71,12 +76,15 @@ fn is_under(
     e: usize,
     mark: &Mark,
 ) -> bool
-    requires supers { AreSupers mode first.now second.now evidence.now.elements (length evidence.now.elements) supers.now }
-    requires order { IsEvidenceOrder second.now evidence.now supers.now.graphs.graphs.items order.old }
+    requires supers { AreSupers mode first.now second.now evidence.now.elements
+        (length evidence.now.elements) supers.now }
+    requires order { IsEvidenceOrder second.now evidence.now supers.now.graphs.graphs.items
+        order.old }
     requires number { e < length evidence.now.elements }
     requires names { NamesElement (length evidence.now.elements) mark.now }
     ensures told { IsTrue result ↔ IsUnder mode first.now second.now evidence.now e mark.now }
-    ensures order { IsEvidenceOrder second.now evidence.now supers.now.graphs.graphs.items order.new }
+    ensures order { IsEvidenceOrder second.now evidence.now supers.now.graphs.graphs.items
+        order.new }
 {
     match mark {
         Mark::Live => true,
@@ -93,7 +101,8 @@ fn is_under(
     }
 }
 
-/// Tests that each element that is not live is under the one that it names. `item` is the number of the first one's item.
+/// Tests that each element that is not live is under the one that it names. `item` is the number of
+/// the first one's item.
 pub fn check_under(
     mode: Mode,
     first: &Auto,
@@ -103,13 +112,20 @@ pub fn check_under(
     order: &mut Order,
     supers: &Supers,
 ) -> Result<(), CheckFault>
-    requires supers { AreSupers mode first.now second.now evidence.now.elements (length evidence.now.elements) supers.now }
-    requires order { IsEvidenceOrder second.now evidence.now supers.now.graphs.graphs.items order.old }
+    requires supers { AreSupers mode first.now second.now evidence.now.elements
+        (length evidence.now.elements) supers.now }
+    requires order { IsEvidenceOrder second.now evidence.now supers.now.graphs.graphs.items
+        order.old }
     requires few { length evidence.now.elements < 10 ^ 9 }
     requires few_items { item + length evidence.now.elements < 2 ^ 32 }
-    requires names { (e : ℕ) → e < length evidence.now.elements → NamesElement (length evidence.now.elements) (slice_index_or evidence.now.elements e no_element).mark }
-    ensures tells { Tells (checks_of_each (under_checks mode first.now second.now evidence.now item) 0 evidence.now.elements) result }
-    ensures order { IsEvidenceOrder second.now evidence.now supers.now.graphs.graphs.items order.new }
+    requires names { (e : ℕ) → e < length evidence.now.elements
+        → NamesElement (length evidence.now.elements)
+        (slice_index_or evidence.now.elements e no_element).mark }
+    ensures tells { Tells
+        (checks_of_each (under_checks mode first.now second.now evidence.now item) 0
+        evidence.now.elements) result }
+    ensures order { IsEvidenceOrder second.now evidence.now supers.now.graphs.graphs.items
+        order.new }
 {
     let elements = evidence.elements.as_slice();
     for e in 0..elements.len() {
@@ -142,13 +158,23 @@ fn is_over_letter(
     j: u32,
     t: u32,
 ) -> Result<bool, Memory>
-    requires supers { AreSupers Buchi first.now second.now evidence.now.elements (length evidence.now.elements) supers.old }
-    requires order { IsEvidenceOrder second.now evidence.now supers.old.graphs.graphs.items order.old }
+    requires supers { AreSupers Buchi first.now second.now evidence.now.elements
+        (length evidence.now.elements) supers.old }
+    requires order { IsEvidenceOrder second.now evidence.now supers.old.graphs.graphs.items
+        order.old }
     requires element { j < length evidence.now.elements }
     requires number { t < length first.now.transitions }
-    ensures told { IfOk result (λ is. IsTrue is ↔ IsOver Buchi first.now second.now evidence.now j (base_arc first.now (trans_at first.now t))) }
-    ensures supers { IfOk result (λ _. AreSupers Buchi first.now second.now evidence.now.elements (length evidence.now.elements) supers.new) }
-    ensures order { IfOk result (λ _. IsEvidenceOrder second.now evidence.now supers.new.graphs.graphs.items order.new) }
+    ensures told { IfOk
+        result (λ is.
+        IsTrue is ↔ IsOver Buchi first.now second.now evidence.now j
+        (base_arc first.now (trans_at first.now t))) }
+    ensures supers { IfOk
+        result (λ _.
+        AreSupers Buchi first.now second.now evidence.now.elements (length evidence.now.elements)
+        supers.new) }
+    ensures order { IfOk
+        result (λ _.
+        IsEvidenceOrder second.now evidence.now supers.new.graphs.graphs.items order.new) }
 {
     let base = blocks::base(first, second, t, &mut supers.graphs)?;
     Ok(is_over(
@@ -171,12 +197,22 @@ fn covers_letters(
     order: &mut Order,
     supers: &mut Supers,
 ) -> Result<bool, Memory>
-    requires supers { AreSupers Buchi first.now second.now evidence.now.elements (length evidence.now.elements) supers.old }
-    requires order { IsEvidenceOrder second.now evidence.now supers.old.graphs.graphs.items order.old }
+    requires supers { AreSupers Buchi first.now second.now evidence.now.elements
+        (length evidence.now.elements) supers.old }
+    requires order { IsEvidenceOrder second.now evidence.now supers.old.graphs.graphs.items
+        order.old }
     requires names { AreElements evidence.now evidence.now.cover }
-    ensures told { IfOk result (λ is. IsTrue is ↔ AreOver Buchi first.now second.now evidence.now evidence.now.cover (covered_in Buchi first.now)) }
-    ensures supers { IfOk result (λ _. AreSupers Buchi first.now second.now evidence.now.elements (length evidence.now.elements) supers.new) }
-    ensures order { IfOk result (λ _. IsEvidenceOrder second.now evidence.now supers.new.graphs.graphs.items order.new) }
+    ensures told { IfOk
+        result (λ is.
+        IsTrue is ↔ AreOver Buchi first.now second.now evidence.now evidence.now.cover
+        (covered_in Buchi first.now)) }
+    ensures supers { IfOk
+        result (λ _.
+        AreSupers Buchi first.now second.now evidence.now.elements (length evidence.now.elements)
+        supers.new) }
+    ensures order { IfOk
+        result (λ _.
+        IsEvidenceOrder second.now evidence.now supers.new.graphs.graphs.items order.new) }
 {
     let cover = evidence.cover.as_slice();
     let count = first.transitions().len();
@@ -200,12 +236,22 @@ fn covers_start(
     order: &mut Order,
     supers: &mut Supers,
 ) -> Result<bool, Memory>
-    requires supers { AreSupers Finite first.now second.now evidence.now.elements (length evidence.now.elements) supers.old }
-    requires order { IsEvidenceOrder second.now evidence.now supers.old.graphs.graphs.items order.old }
+    requires supers { AreSupers Finite first.now second.now evidence.now.elements
+        (length evidence.now.elements) supers.old }
+    requires order { IsEvidenceOrder second.now evidence.now supers.old.graphs.graphs.items
+        order.old }
     requires names { AreElements evidence.now evidence.now.cover }
-    ensures told { IfOk result (λ is. IsTrue is ↔ AreOver Finite first.now second.now evidence.now evidence.now.cover (covered_in Finite first.now)) }
-    ensures supers { IfOk result (λ _. AreSupers Finite first.now second.now evidence.now.elements (length evidence.now.elements) supers.new) }
-    ensures order { IfOk result (λ _. IsEvidenceOrder second.now evidence.now supers.new.graphs.graphs.items order.new) }
+    ensures told { IfOk
+        result (λ is.
+        IsTrue is ↔ AreOver Finite first.now second.now evidence.now evidence.now.cover
+        (covered_in Finite first.now)) }
+    ensures supers { IfOk
+        result (λ _.
+        AreSupers Finite first.now second.now evidence.now.elements (length evidence.now.elements)
+        supers.new) }
+    ensures order { IfOk
+        result (λ _.
+        IsEvidenceOrder second.now evidence.now supers.new.graphs.graphs.items order.new) }
 {
     let cover = evidence.cover.as_slice();
     if cover.len() != 1 {
@@ -234,12 +280,22 @@ fn covers_all(
     order: &mut Order,
     supers: &mut Supers,
 ) -> Result<bool, Memory>
-    requires supers { AreSupers mode first.now second.now evidence.now.elements (length evidence.now.elements) supers.old }
-    requires order { IsEvidenceOrder second.now evidence.now supers.old.graphs.graphs.items order.old }
+    requires supers { AreSupers mode first.now second.now evidence.now.elements
+        (length evidence.now.elements) supers.old }
+    requires order { IsEvidenceOrder second.now evidence.now supers.old.graphs.graphs.items
+        order.old }
     requires names { AreElements evidence.now evidence.now.cover }
-    ensures told { IfOk result (λ is. IsTrue is ↔ AreOver mode first.now second.now evidence.now evidence.now.cover (covered_in mode first.now)) }
-    ensures supers { IfOk result (λ _. AreSupers mode first.now second.now evidence.now.elements (length evidence.now.elements) supers.new) }
-    ensures order { IfOk result (λ _. IsEvidenceOrder second.now evidence.now supers.new.graphs.graphs.items order.new) }
+    ensures told { IfOk
+        result (λ is.
+        IsTrue is ↔ AreOver mode first.now second.now evidence.now evidence.now.cover
+        (covered_in mode first.now)) }
+    ensures supers { IfOk
+        result (λ _.
+        AreSupers mode first.now second.now evidence.now.elements (length evidence.now.elements)
+        supers.new) }
+    ensures order { IfOk
+        result (λ _.
+        IsEvidenceOrder second.now evidence.now supers.new.graphs.graphs.items order.new) }
 {
     match mode {
         Mode::Buchi => covers_letters(first, second, evidence, order, supers),
@@ -258,11 +314,18 @@ pub fn check_cover(
     order: &mut Order,
     supers: &mut Supers,
 ) -> Result<(), CheckFault>
-    requires supers { AreSupers mode first.now second.now evidence.now.elements (length evidence.now.elements) supers.old }
-    requires order { IsEvidenceOrder second.now evidence.now supers.old.graphs.graphs.items order.old }
+    requires supers { AreSupers mode first.now second.now evidence.now.elements
+        (length evidence.now.elements) supers.old }
+    requires order { IsEvidenceOrder second.now evidence.now supers.old.graphs.graphs.items
+        order.old }
     ensures tells { Tells (cover_checks mode first.now second.now evidence.now item) result }
-    ensures supers { IfOk result (λ _. AreSupers mode first.now second.now evidence.now.elements (length evidence.now.elements) supers.new) }
-    ensures order { IfOk result (λ _. IsEvidenceOrder second.now evidence.now supers.new.graphs.graphs.items order.new) }
+    ensures supers { IfOk
+        result (λ _.
+        AreSupers mode first.now second.now evidence.now.elements (length evidence.now.elements)
+        supers.new) }
+    ensures order { IfOk
+        result (λ _.
+        IsEvidenceOrder second.now evidence.now supers.new.graphs.graphs.items order.new) }
 {
     if !are_elements(evidence, evidence.cover.as_slice()) {
         return Err(CheckFault::Refused(Refusal { rule: 1, item }));

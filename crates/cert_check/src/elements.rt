@@ -1,4 +1,5 @@
-//! The elements of an inclusion or a list: where they come from, their arcs, and their words' graphs or sets.
+//! The elements of an inclusion or a list: where they come from, their arcs, and their words'
+//! graphs or sets.
 
 ghost use Rattle.std.specs.Prelude.{◌≡◌, ◌+◌, ◌++◌, [], ◌∷◌, ◌*◌, ◌^◌, ◌<◌, ◌≤◌, ◌↔◌, ℕ, true, All, length, slice_index_or, IfOk, IsTrue, MatchOption};
 ghost use Rattle.auto_core.specs.Graph.{arc_of};
@@ -17,7 +18,8 @@ use shared_graphs::Graphs;
 use std::alloc::Global;
 use supergraph::Arc;
 
-/// The arcs of the first elements, the numbers of their graphs, in finite mode of their sets, and the different ones themselves.
+/// The arcs of the first elements, the numbers of their graphs, in finite mode of their sets, and
+/// the different ones themselves.
 #[derive(Drop)]
 pub struct Supers {
     /// The arc of each element.
@@ -163,7 +165,9 @@ fn compute(
     requires leaves { GoesOn first.now (element_arcs first.now elements.now) origin.now }
     ensures arcs { supers.new.arcs ≡ supers.old.arcs }
     ensures numbers { supers.new.numbers ≡ supers.old.numbers }
-    ensures numbered { IfOk result (IsGraphNumbered mode first.now second.now supers.old.graphs supers.new.graphs (arc_of first.now (element_arcs first.now elements.now) origin.now)) }
+    ensures numbered { IfOk result
+        (IsGraphNumbered mode first.now second.now supers.old.graphs supers.new.graphs
+        (arc_of first.now (element_arcs first.now elements.now) origin.now)) }
 {
     match origin {
         Origin::Start => blocks::start(alloc, first, second, &mut supers.graphs),
@@ -177,8 +181,10 @@ fn compute(
 
 /// Adds an arc and the number of its graph.
 fn add(supers: &mut Supers, numbered: Numbered) -> Result<(), Memory>
-    ensures arcs { IfOk result (λ _. supers.new.arcs.items ≡ supers.old.arcs.items ++ numbered.arc ∷ []) }
-    ensures numbers { IfOk result (λ _. supers.new.numbers.items ≡ supers.old.numbers.items ++ numbered.number ∷ []) }
+    ensures arcs { IfOk
+        result (λ _. supers.new.arcs.items ≡ supers.old.arcs.items ++ numbered.arc ∷ []) }
+    ensures numbers { IfOk
+        result (λ _. supers.new.numbers.items ≡ supers.old.numbers.items ++ numbered.number ∷ []) }
     ensures graphs { supers.new.graphs ≡ supers.old.graphs }
 {
     supers.arcs.push(numbered.arc)?;
@@ -204,13 +210,15 @@ fn add_element(
     requires names { NamesOrigin first.now (length elements.now) origin.now }
     requires earlier { HasEarlierParent e origin.now }
     requires leaves { GoesOn first.now (element_arcs first.now elements.now) origin.now }
-    ensures { IfOk result (λ _. AreSupers mode first.now second.now elements.now (e + 1) supers.new) }
+    ensures { IfOk
+        result (λ _. AreSupers mode first.now second.now elements.now (e + 1) supers.new) }
 {
     let numbered = compute(alloc, mode, first, second, elements, supers, e, origin)?;
     add(supers, numbered)
 }
 
-/// Adds the arcs and the graphs of all elements, up to one that does not name what is there or go on from an earlier one.
+/// Adds the arcs and the graphs of all elements, up to one that does not name what is there or go
+/// on from an earlier one.
 fn fill(
     alloc: Global,
     mode: Mode,
@@ -224,8 +232,11 @@ fn fill(
     requires few_items { item + length elements.now < 2 ^ 32 }
     requires begun { All (λ element. is_origin mode element.origin ≡ true) elements.now }
     requires none { AreSupers mode first.now second.now elements.now 0 supers.old }
-    ensures tells { Tells (checks_of_each (element_checks first.now elements.now item) 0 elements.now) result }
-    ensures supers { IfOk result (λ _. AreSupers mode first.now second.now elements.now (length elements.now) supers.new) }
+    ensures tells { Tells
+        (checks_of_each (element_checks first.now elements.now item) 0 elements.now) result }
+    ensures supers { IfOk
+        result (λ _.
+        AreSupers mode first.now second.now elements.now (length elements.now) supers.new) }
 {
     let items = elements.as_slice();
     for e in 0..items.len() {
@@ -252,8 +263,8 @@ fn fill(
     Ok(())
 }
 
-/// The arcs and graphs of all elements, if each names what is there and goes on from an earlier one. `item` is the number of the first
-/// one's item.
+/// The arcs and graphs of all elements, if each names what is there and goes on from an earlier
+/// one. `item` is the number of the first one's item.
 pub fn checked_elements(
     alloc: Global,
     mode: Mode,
@@ -265,8 +276,10 @@ pub fn checked_elements(
     requires few { length elements.now < 10 ^ 9 }
     requires few_items { item + length elements.now < 2 ^ 32 }
     requires begun { All (λ element. is_origin mode element.origin ≡ true) elements.now }
-    ensures tells { Tells (checks_of_each (element_checks first.now elements.now item) 0 elements.now) result }
-    ensures supers { IfOk result (AreSupers mode first.now second.now elements.now (length elements.now)) }
+    ensures tells { Tells
+        (checks_of_each (element_checks first.now elements.now item) 0 elements.now) result }
+    ensures supers { IfOk result
+        (AreSupers mode first.now second.now elements.now (length elements.now)) }
 {
     let mut pool = Pool::new(alloc, words_in(mode, second.states()));
     let mut supers = Supers {

@@ -1,4 +1,5 @@
-//! For each graph the number of the first one with the same block, so that those with equal blocks have one number.
+//! For each graph the number of the first one with the same block, so that those with equal blocks
+//! have one number.
 
 ghost use Rattle.std.specs.Prelude.{◌≡◌, length, IfOk};
 ghost use Rattle.cert_check.specs.Firsts.{mixed_with, mixed_words, mixed_fours, IsBlockKnown, IsNumberKnown, AreFirsts};
@@ -14,8 +15,9 @@ const MIX_TURN: u32 = 5;
 /// What a mixed number is multiplied by for each word: an odd number whose bits have no pattern.
 const MIX_FACTOR: u64 = 5871781006564002453;
 
-/// By each mixed number the first graph whose block has it, and by their blocks the first ones of those that come later, whose block is another one.
-/// Words of a hostile file can make many blocks have one mixed number; these are told apart by the order of their words.
+/// By each mixed number the first graph whose block has it, and by their blocks the first ones of
+/// those that come later, whose block is another one. Words of a hostile file can make many blocks
+/// have one mixed number; these are told apart by the order of their words.
 #[derive(Drop)]
 struct Known<'a> {
     by_mixed: BTreeMap<u64, u64>,
@@ -40,7 +42,8 @@ pub fn mix_words(mixed: u64, words: &[u64]) -> u64
     now
 }
 
-/// The mixed number of a block. Four words are mixed by themselves first, since so the steps of one four needn't wait for those of the one before.
+/// The mixed number of a block. Four words are mixed by themselves first, since so the steps of one
+/// four needn't wait for those of the one before.
 fn mix_block(block: &[u64]) -> u64
     ensures { result ≡ mixed_fours 0 block.now }
 {

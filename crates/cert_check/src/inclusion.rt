@@ -12,7 +12,8 @@ use cert_value::YesBody;
 use log_check::CheckFault;
 use std::alloc::Global;
 
-/// Tests the evidence by all its rules, in their order, on the automata that the logs lead to. `item` is the number of its first item.
+/// Tests the evidence by all its rules, in their order, on the automata that the logs lead to.
+/// `item` is the number of its first item.
 pub fn check_inclusion(
     alloc: Global,
     mode: Mode,
@@ -22,7 +23,8 @@ pub fn check_inclusion(
     item: u32,
 ) -> Result<(), CheckFault>
     requires few { length evidence.now.elements < 10 ^ 9 }
-    requires few_items { item + 2 + length evidence.now.elements + length evidence.now.steps < 2 ^ 32 }
+    requires few_items { item + 2 + length evidence.now.elements + length evidence.now.steps
+        < 2 ^ 32 }
     requires few_steps { length evidence.now.steps < 10 ^ 9 }
     requires begun { All (λ element. is_origin mode element.origin ≡ true) evidence.now.elements }
     ensures tells { Tells (inclusion_checks mode evidence.now item first.now second.now) result }

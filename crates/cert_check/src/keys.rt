@@ -46,7 +46,9 @@ pub fn key_from(mode: Mode, supers: &Supers, firsts: &[u64], e: usize) -> [u64; 
 /// Adds the key, and tells whether it was not there.
 pub fn is_new<const N: usize>(keys: &mut BTreeSet<[u64; N]>, key: [u64; N]) -> Result<bool, Memory>
     ensures told { IfOk result (λ new. new ≡ not (has_key keys.old key.entry)) }
-    ensures added { IfOk result (λ _. (other : Key) → HasKey keys.new other ↔ (HasKey keys.old other ⊎ (other ≡ key.entry))) }
+    ensures added { IfOk
+        result (λ _.
+        (other : Key) → HasKey keys.new other ↔ (HasKey keys.old other ⊎ (other ≡ key.entry))) }
 {
     match keys.insert(key) {
         Ok(new) => Ok(new),

@@ -20,8 +20,11 @@ pub fn are_labels(word: &[u32], labels: u32) -> bool
 
 /// The lasso, if it separates the two automata; otherwise the first broken rule.
 pub fn check_lasso(alloc: Global, pair: &Joined, lasso: &Lasso) -> Result<Verdict, CheckFault>
-    ensures valid { IfOk result (λ verdict. (verdict ≡ Verdict.Apart lasso.now) × AllHold (lasso_checks pair.now lasso.now)) }
-    ensures refused { (refusal : Refusal) → result ≡ Err (CheckFault.Refused refusal) → FirstBroken (lasso_checks pair.now lasso.now) refusal }
+    ensures valid { IfOk
+        result (λ verdict.
+        (verdict ≡ Verdict.Apart lasso.now) × AllHold (lasso_checks pair.now lasso.now)) }
+    ensures refused { (refusal : Refusal) → result ≡ Err (CheckFault.Refused refusal)
+        → FirstBroken (lasso_checks pair.now lasso.now) refusal }
 {
     let labels = pair.labels.count();
     if !are_labels(lasso.prefix.as_slice(), labels) {

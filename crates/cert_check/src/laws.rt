@@ -1,4 +1,5 @@
-//! What valid certificates show, and which rule others break first: each law is the contract of a function that does nothing.
+//! What valid certificates show, and which rule others break first: each law is the contract of a
+//! function that does nothing.
 
 ghost use Rattle.cert_check.specs.Laws.{ValidYesIncludes, ValidNoSeparates, ValidNoSeparatesByWord, ValidListShows, OneRuleBreaks, NoneBreaksWhereKept, UpgradeIsCheckedAlike};
 
@@ -17,7 +18,8 @@ pub fn valid_no_separates_by_word()
     ensures { ValidNoSeparatesByWord }
 {}
 
-/// A valid list shows more different supergraphs than its limit, in finite mode pairs of a state and a set.
+/// A valid list shows more different supergraphs than its limit, in finite mode pairs of a state
+/// and a set.
 pub fn valid_list_shows()
     ensures { ValidListShows }
 {}

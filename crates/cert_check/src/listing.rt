@@ -26,7 +26,8 @@ fn elements_from(alloc: Global, origins: &[Origin]) -> Result<List<Element>, Mem
     Ok(elements)
 }
 
-/// Tests the list by all its rules, in their order, on the automata that the logs lead to. `item` is the number of the limit's item.
+/// Tests the list by all its rules, in their order, on the automata that the logs lead to. `item`
+/// is the number of the limit's item.
 pub fn check_listing(
     alloc: Global,
     mode: Mode,

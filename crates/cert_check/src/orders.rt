@@ -25,7 +25,8 @@ pub struct Order {
     pub covers: Memo,
 }
 
-/// The relation that the certificate lists, if it is one of states and stable forward at lookahead 1.
+/// The relation that the certificate lists, if it is one of states and stable forward at lookahead
+/// 1.
 pub fn checked_order(
     alloc: Global,
     second: &Auto,
@@ -33,7 +34,9 @@ pub fn checked_order(
     item: u32,
 ) -> Result<Order, CheckFault>
     ensures tells { Tells (order_checks second.now evidence.now item) result }
-    ensures order { IfOk result (λ order. (graphs : List (List ℕ)) → IsEvidenceOrder second.now evidence.now graphs order) }
+    ensures order { IfOk
+        result (λ order.
+        (graphs : List (List ℕ)) → IsEvidenceOrder second.now evidence.now graphs order) }
 {
     let states = second.states();
     if !is_block_below(states, &evidence.order) {

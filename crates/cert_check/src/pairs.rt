@@ -1,5 +1,5 @@
-//! The pairs of live elements: each that is tested has a lasso. Many elements may have one graph, so each graph at a state is tested once
-//! against each other one there.
+//! The pairs of live elements: each that is tested has a lasso. Many elements may have one graph,
+//! so each graph at a state is tested once against each other one there.
 
 ghost use Rattle.std.specs.Prelude.{◌≡◌, ◌+◌, ◌^◌, ◌<◌, ◌↔◌, ◌++◌, [], ◌∷◌, ℕ, length, Contains, IfOk, IsTrue};
 ghost use Rattle.auto_core.specs.Graph.{LassoIn};
@@ -30,7 +30,8 @@ pub struct Tests {
     pub passed: BTreeSet<[u64; 2]>,
     /// For each graph how often it was asked for.
     pub asked: Vec<u32>,
-    /// For each graph that was asked for often the states from which it has a loop past an accepting state; for others no row.
+    /// For each graph that was asked for often the states from which it has a loop past an
+    /// accepting state; for others no row.
     pub loops: Vec<Vec<u64>>,
     /// Room for the test of one pair.
     pub scratch: Scratch,
@@ -86,7 +87,8 @@ fn add_at(lists: &mut Vec<Vec<u32>>, place: usize, number: u32) -> Result<(), Me
     Ok(())
 }
 
-/// Adds the graph of the element to those at its state, if it is a turn and its graph is not there yet.
+/// Adds the graph of the element to those at its state, if it is a turn and its graph is not there
+/// yet.
 fn add_turn(
     first: &Auto,
     second: &Auto,
@@ -96,11 +98,13 @@ fn add_turn(
     seen: &mut BTreeSet<[u64; 2]>,
     turns: &mut Vec<Vec<u32>>,
 ) -> Result<(), Memory>
-    requires supers { AreSupers Buchi first.now second.now evidence.now.elements (length evidence.now.elements) supers.now }
+    requires supers { AreSupers Buchi first.now second.now evidence.now.elements
+        (length evidence.now.elements) supers.now }
     requires element { e < length evidence.now.elements }
     requires turns { AreTurns evidence.now supers.now e first.now.states turns.old.items }
     requires seen { AreListedAtStates seen.old turns.old.items }
-    ensures turns { IfOk result (λ _. AreTurns evidence.now supers.now (e + 1) first.now.states turns.new.items) }
+    ensures turns { IfOk
+        result (λ _. AreTurns evidence.now supers.now (e + 1) first.now.states turns.new.items) }
     ensures seen { IfOk result (λ _. AreListedAtStates seen.new turns.new.items) }
 {
     if !is_turn(evidence, supers, e) {
@@ -125,8 +129,12 @@ fn turns_by_state(
     supers: &Supers,
 ) -> Result<Vec<Vec<u32>>, Memory>
     requires few { length evidence.now.elements < 10 ^ 9 }
-    requires supers { AreSupers Buchi first.now second.now evidence.now.elements (length evidence.now.elements) supers.now }
-    ensures { IfOk result (λ turns. AreTurns evidence.now supers.now (length evidence.now.elements) first.now.states turns.items) }
+    requires supers { AreSupers Buchi first.now second.now evidence.now.elements
+        (length evidence.now.elements) supers.now }
+    ensures { IfOk
+        result (λ turns.
+        AreTurns evidence.now supers.now (length evidence.now.elements) first.now.states
+        turns.items) }
 {
     let mut turns = empty_lists(alloc, first.states())?;
     let mut seen = BTreeSet::new(alloc);
@@ -136,8 +144,8 @@ fn turns_by_state(
     Ok(turns)
 }
 
-/// Counts that the graph was asked for, and tells whether that was less often than there are states: until then one test costs less than
-/// marking its states.
+/// Counts that the graph was asked for, and tells whether that was less often than there are
+/// states: until then one test costs less than marking its states.
 fn is_rare(states: u32, asked: &mut [u32], h: u32) -> bool {
     if h as usize >= asked.len() {
         return true;
@@ -161,7 +169,10 @@ fn mark_loops(
     requires loops { AreLoops states graphs.now.items loops.old.items }
     requires room { scratch.old ≡ states }
     ensures loops { IfOk result (λ _. AreLoops states graphs.now.items loops.new.items) }
-    ensures here { IfOk result (λ _. IsLoopRow states (block_graph states (block_at graphs.now.items h)) (numbers_at loops.new.items h)) }
+    ensures here { IfOk
+        result (λ _.
+        IsLoopRow states (block_graph states (block_at graphs.now.items h))
+        (numbers_at loops.new.items h)) }
     ensures size { length loops.new.items ≡ length loops.old.items }
     ensures room { scratch.new ≡ states }
 {
@@ -173,7 +184,8 @@ fn mark_loops(
     Ok(())
 }
 
-/// Tells whether the graph of the block has a lasso with the other one, from the second automaton's initial state.
+/// Tells whether the graph of the block has a lasso with the other one, from the second automaton's
+/// initial state.
 fn has_lasso(
     alloc: Global,
     second: &Auto,
@@ -209,7 +221,8 @@ fn has_lasso(
     Ok(enters(states, block, second.initial(), &loops[h as usize]))
 }
 
-/// Tells whether the graph has a lasso with each of the others, from the second automaton's initial state.
+/// Tells whether the graph has a lasso with each of the others, from the second automaton's initial
+/// state.
 fn has_lassos(
     alloc: Global,
     second: &Auto,
@@ -221,11 +234,13 @@ fn has_lassos(
     scratch: &mut Scratch,
 ) -> Result<bool, Memory>
     requires formed { IsFormed second.now.states (block_at graphs.now.items g) }
-    requires others { (h : ℕ) → Contains others.now h → IsFormed second.now.states (block_at graphs.now.items h) }
+    requires others { (h : ℕ) → Contains others.now h
+        → IsFormed second.now.states (block_at graphs.now.items h) }
     requires there { (h : ℕ) → Contains others.now h → h < length loops.old.items }
     requires loops { AreLoops second.now.states graphs.now.items loops.old.items }
     requires room { scratch.old ≡ second.now.states }
-    ensures told { IfOk result (λ is. IsTrue is ↔ HasLassos second.now graphs.now.items g others.now) }
+    ensures told { IfOk
+        result (λ is. IsTrue is ↔ HasLassos second.now graphs.now.items g others.now) }
     ensures loops { IfOk result (λ _. AreLoops second.now.states graphs.now.items loops.new.items) }
     ensures size { length loops.new.items ≡ length loops.old.items }
     ensures room { scratch.new ≡ second.now.states }
@@ -268,12 +283,17 @@ fn passes_with_all(
     tests: &mut Tests,
 ) -> Result<bool, Memory>
     requires few { length evidence.now.elements < 10 ^ 9 }
-    requires supers { AreSupers Buchi first.now second.now evidence.now.elements (length evidence.now.elements) supers.now }
-    requires turns { AreTurns evidence.now supers.now (length evidence.now.elements) first.now.states turns.now }
+    requires supers { AreSupers Buchi first.now second.now evidence.now.elements
+        (length evidence.now.elements) supers.now }
+    requires turns { AreTurns evidence.now supers.now (length evidence.now.elements)
+        first.now.states turns.now }
     requires element { e < length evidence.now.elements }
     requires tests { AreTests second.now supers.now.graphs.graphs.items turns.now tests.old }
-    ensures told { IfOk result (λ is. IsTrue is ↔ PassesWithAll first.now second.now evidence.now e) }
-    ensures tests { IfOk result (λ is. IsTrue is → AreTests second.now supers.now.graphs.graphs.items turns.now tests.new) }
+    ensures told { IfOk
+        result (λ is. IsTrue is ↔ PassesWithAll first.now second.now evidence.now e) }
+    ensures tests { IfOk
+        result (λ is.
+        IsTrue is → AreTests second.now supers.now.graphs.graphs.items turns.now tests.new) }
 {
     if !covers::is_live(evidence, e as u32) {
         return Ok(true);
@@ -308,10 +328,13 @@ pub fn check_pairs(
     item: u32,
     supers: &Supers,
 ) -> Result<(), CheckFault>
-    requires supers { AreSupers Buchi first.now second.now evidence.now.elements (length evidence.now.elements) supers.now }
+    requires supers { AreSupers Buchi first.now second.now evidence.now.elements
+        (length evidence.now.elements) supers.now }
     requires few { length evidence.now.elements < 10 ^ 9 }
     requires few_items { item + length evidence.now.elements < 2 ^ 32 }
-    ensures { Tells (checks_of_each (pair_checks Buchi first.now second.now evidence.now item) 0 evidence.now.elements) result }
+    ensures { Tells
+        (checks_of_each (pair_checks Buchi first.now second.now evidence.now item) 0
+        evidence.now.elements) result }
 {
     let turns = turns_by_state(alloc, first, second, evidence, supers)?;
     let mut tests = Tests::new(alloc, second.states(), supers.graphs.graphs.len())?;

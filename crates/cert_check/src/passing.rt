@@ -13,10 +13,12 @@ use cert_value::YesBody;
 use log_check::{CheckFault, Refusal};
 use std::alloc::Global;
 
-/// Tells whether the element passes if it is live: where its state is accepting, a member of its set is.
+/// Tells whether the element passes if it is live: where its state is accepting, a member of its
+/// set is.
 fn passes_alone(first: &Auto, second: &Auto, evidence: &YesBody, supers: &Supers, e: usize) -> bool
     requires few { length evidence.now.elements < 10 ^ 9 }
-    requires supers { AreSupers Finite first.now second.now evidence.now.elements (length evidence.now.elements) supers.now }
+    requires supers { AreSupers Finite first.now second.now evidence.now.elements
+        (length evidence.now.elements) supers.now }
     requires element { e < length evidence.now.elements }
     ensures { IsTrue result ↔ PassesAlone first.now second.now evidence.now e }
 {
@@ -34,10 +36,13 @@ fn check_alone(
     item: u32,
     supers: &Supers,
 ) -> Result<(), CheckFault>
-    requires supers { AreSupers Finite first.now second.now evidence.now.elements (length evidence.now.elements) supers.now }
+    requires supers { AreSupers Finite first.now second.now evidence.now.elements
+        (length evidence.now.elements) supers.now }
     requires few { length evidence.now.elements < 10 ^ 9 }
     requires few_items { item + length evidence.now.elements < 2 ^ 32 }
-    ensures { Tells (checks_of_each (pair_checks Finite first.now second.now evidence.now item) 0 evidence.now.elements) result }
+    ensures { Tells
+        (checks_of_each (pair_checks Finite first.now second.now evidence.now item) 0
+        evidence.now.elements) result }
 {
     for e in 0..evidence.elements.as_slice().len() {
         if !passes_alone(first, second, evidence, supers, e) {
@@ -60,10 +65,13 @@ pub fn check_passing(
     item: u32,
     supers: &Supers,
 ) -> Result<(), CheckFault>
-    requires supers { AreSupers mode first.now second.now evidence.now.elements (length evidence.now.elements) supers.now }
+    requires supers { AreSupers mode first.now second.now evidence.now.elements
+        (length evidence.now.elements) supers.now }
     requires few { length evidence.now.elements < 10 ^ 9 }
     requires few_items { item + length evidence.now.elements < 2 ^ 32 }
-    ensures { Tells (checks_of_each (pair_checks mode first.now second.now evidence.now item) 0 evidence.now.elements) result }
+    ensures { Tells
+        (checks_of_each (pair_checks mode first.now second.now evidence.now item) 0
+        evidence.now.elements) result }
 {
     match mode {
         Mode::Buchi => pairs::check_pairs(alloc, first, second, evidence, item, supers),

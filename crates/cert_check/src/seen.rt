@@ -15,12 +15,12 @@ use log_check::{CheckFault, Refusal};
 use std::alloc::Global;
 use std::collections::BTreeSet;
 
-/// How many places the table has for each element; the whole table has one more, so that it is never empty. With so many, most keys find theirs
-/// free.
+/// How many places the table has for each element; the whole table has one more, so that it is
+/// never empty. With so many, most keys find theirs free.
 const PLACES_PER_ELEMENT: usize = 4;
 
-/// The elements whose keys were seen. Words of a hostile file can make many keys have one place; all but the first of them are looked for in the
-/// ordered set.
+/// The elements whose keys were seen. Words of a hostile file can make many keys have one place;
+/// all but the first of them are looked for in the ordered set.
 #[derive(Drop)]
 struct Seen {
     /// At the place of a key the number of the first element that came there and one more, or 0.
@@ -43,7 +43,8 @@ impl Seen {
     fn new(alloc: Global, most: usize) -> Result<Seen, Memory>
         requires few { most < 10 ^ 9 }
         ensures none { IfOk result (λ seen. (keys : ℕ → Key) → HaveSeen keys 0 seen) }
-        ensures room { IfOk result (λ seen. length seen.places.items ≡ most * PLACES_PER_ELEMENT + 1) }
+        ensures room { IfOk
+            result (λ seen. length seen.places.items ≡ most * PLACES_PER_ELEMENT + 1) }
     {
         Ok(Seen {
             places: vec![in alloc; 0; most * PLACES_PER_ELEMENT + 1]?,
@@ -68,7 +69,9 @@ impl Seen {
     fn put_at(&mut self, key: &[u64; 4], e: usize)
         requires some { 0 < length self.old.places.items }
         requires few { e < 10 ^ 9 }
-        ensures places { self.new.places.items ≡ slice_set self.old.places.items (key_place (length self.old.places.items) key.now) (e + 1) }
+        ensures places { self.new.places.items
+            ≡ slice_set self.old.places.items (key_place (length self.old.places.items) key.now)
+            (e + 1) }
         ensures others { self.new.others ≡ self.old.others }
     {
         let place = key_place(key, self.places.len());
@@ -90,10 +93,13 @@ fn is_unlike_earlier(
     requires few { e < 10 ^ 9 }
     requires seen { HaveSeen (key_at mode supers.now firsts.now) e seen.old }
     ensures fits { IfOk result (λ _. Fit (held_block supers.now e)) }
-    ensures unlike { IfOk result (λ is. is ≡ true → IsUnlikeEarlier (key_at mode supers.now firsts.now) e) }
-    ensures seen { IfOk result (λ is. is ≡ true → HaveSeen (key_at mode supers.now firsts.now) (e + 1) seen.new) }
+    ensures unlike { IfOk
+        result (λ is. is ≡ true → IsUnlikeEarlier (key_at mode supers.now firsts.now) e) }
+    ensures seen { IfOk
+        result (λ is. is ≡ true → HaveSeen (key_at mode supers.now firsts.now) (e + 1) seen.new) }
     ensures room { IfOk result (λ _. length seen.new.places.items ≡ length seen.old.places.items) }
-    ensures alike { IfOk result (λ is. is ≡ false → IsUnlikeEarlier (key_at mode supers.now firsts.now) e → ⊥) }
+    ensures alike { IfOk
+        result (λ is. is ≡ false → IsUnlikeEarlier (key_at mode supers.now firsts.now) e → ⊥) }
 {
     let key = key_from(mode, supers, firsts, e);
     let Some(first) = seen.first_at(&key) else {
@@ -107,7 +113,8 @@ fn is_unlike_earlier(
     is_new(&mut seen.others, key)
 }
 
-/// Tests that each element differs from those before it, in order. `item` is the number of the first one's item.
+/// Tests that each element differs from those before it, in order. `item` is the number of the
+/// first one's item.
 pub fn check_differences(
     alloc: Global,
     mode: Mode,
@@ -117,10 +124,13 @@ pub fn check_differences(
     item: u32,
     supers: &Supers,
 ) -> Result<(), CheckFault>
-    requires supers { AreSupers mode first.now second.now elements.now (length elements.now) supers.now }
+    requires supers { AreSupers mode first.now second.now elements.now (length elements.now)
+        supers.now }
     requires few { length elements.now < 10 ^ 9 }
     requires few_items { item + length elements.now < 2 ^ 32 }
-    ensures { Tells (checks_of_each (difference_checks mode first.now second.now elements.now item) 0 elements.now) result }
+    ensures { Tells
+        (checks_of_each (difference_checks mode first.now second.now elements.now item) 0
+        elements.now) result }
 {
     let firsts = first_numbers(alloc, &supers.graphs.graphs)?;
     let items = elements.as_slice();

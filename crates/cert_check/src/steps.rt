@@ -28,16 +28,24 @@ fn is_over_extension(
     e: u32,
     t: u32,
 ) -> Result<bool, Memory>
-    requires supers { AreSupers mode first.now second.now evidence.now.elements (length evidence.now.elements) supers.old }
-    requires order { IsEvidenceOrder second.now evidence.now supers.old.graphs.graphs.items order.old }
+    requires supers { AreSupers mode first.now second.now evidence.now.elements
+        (length evidence.now.elements) supers.old }
+    requires order { IsEvidenceOrder second.now evidence.now supers.old.graphs.graphs.items
+        order.old }
     requires over { j < length evidence.now.elements }
     requires element { e < length evidence.now.elements }
     requires number { t < length first.now.transitions }
-    requires leaves { (trans_at first.now t).source ≡ (arc_at first.now (element_arcs first.now evidence.now.elements) e).to }
+    requires leaves { (trans_at first.now t).source
+        ≡ (arc_at first.now (element_arcs first.now evidence.now.elements) e).to }
     ensures told { IfOk result (λ is. IsTrue is ↔ IsOver mode first.now second.now evidence.now j
         (extended_arc first.now (arc_at first.now (element_arcs first.now evidence.now.elements) e) (trans_at first.now t))) }
-    ensures supers { IfOk result (λ _. AreSupers mode first.now second.now evidence.now.elements (length evidence.now.elements) supers.new) }
-    ensures order { IfOk result (λ _. IsEvidenceOrder second.now evidence.now supers.new.graphs.graphs.items order.new) }
+    ensures supers { IfOk
+        result (λ _.
+        AreSupers mode first.now second.now evidence.now.elements (length evidence.now.elements)
+        supers.new) }
+    ensures order { IfOk
+        result (λ _.
+        IsEvidenceOrder second.now evidence.now supers.new.graphs.graphs.items order.new) }
 {
     let from = supers.element(e as usize);
     let longer = blocks::extend(alloc, mode, first, second, from, t, &mut supers.graphs)?;
@@ -55,13 +63,24 @@ fn covers_extensions(
     supers: &mut Supers,
     step: &StepLine,
 ) -> Result<bool, Memory>
-    requires supers { AreSupers mode first.now second.now evidence.now.elements (length evidence.now.elements) supers.old }
-    requires order { IsEvidenceOrder second.now evidence.now supers.old.graphs.graphs.items order.old }
+    requires supers { AreSupers mode first.now second.now evidence.now.elements
+        (length evidence.now.elements) supers.old }
+    requires order { IsEvidenceOrder second.now evidence.now supers.old.graphs.graphs.items
+        order.old }
     requires element { step.now.element < length evidence.now.elements }
     requires names { AreElements evidence.now step.now.by }
-    ensures told { IfOk result (λ is. IsTrue is ↔ AreOver mode first.now second.now evidence.now step.now.by (extensions_of first.now (arc_at first.now (element_arcs first.now evidence.now.elements) step.now.element))) }
-    ensures supers { IfOk result (λ _. AreSupers mode first.now second.now evidence.now.elements (length evidence.now.elements) supers.new) }
-    ensures order { IfOk result (λ _. IsEvidenceOrder second.now evidence.now supers.new.graphs.graphs.items order.new) }
+    ensures told { IfOk
+        result (λ is.
+        IsTrue is ↔ AreOver mode first.now second.now evidence.now step.now.by
+        (extensions_of first.now
+        (arc_at first.now (element_arcs first.now evidence.now.elements) step.now.element))) }
+    ensures supers { IfOk
+        result (λ _.
+        AreSupers mode first.now second.now evidence.now.elements (length evidence.now.elements)
+        supers.new) }
+    ensures order { IfOk
+        result (λ _.
+        IsEvidenceOrder second.now evidence.now supers.new.graphs.graphs.items order.new) }
 {
     let by = step.by.as_slice();
     let from = supers.element(step.element as usize);
@@ -101,13 +120,20 @@ fn broken_rule(
     supers: &mut Supers,
     step: &StepLine,
 ) -> Result<Option<u32>, Memory>
-    requires supers { AreSupers mode first.now second.now evidence.now.elements (length evidence.now.elements) supers.old }
-    requires order { IsEvidenceOrder second.now evidence.now supers.old.graphs.graphs.items order.old }
+    requires supers { AreSupers mode first.now second.now evidence.now.elements
+        (length evidence.now.elements) supers.old }
+    requires order { IsEvidenceOrder second.now evidence.now supers.old.graphs.graphs.items
+        order.old }
     ensures told { IfOk result (λ broken. (item k : ℕ) → MatchOption broken
         (AllHold (step_checks mode first.now second.now evidence.now item k step.now))
         (λ rule. FirstBroken (step_checks mode first.now second.now evidence.now item k step.now) (record { rule = rule; item = item + k }))) }
-    ensures supers { IfOk result (λ _. AreSupers mode first.now second.now evidence.now.elements (length evidence.now.elements) supers.new) }
-    ensures order { IfOk result (λ _. IsEvidenceOrder second.now evidence.now supers.new.graphs.graphs.items order.new) }
+    ensures supers { IfOk
+        result (λ _.
+        AreSupers mode first.now second.now evidence.now.elements (length evidence.now.elements)
+        supers.new) }
+    ensures order { IfOk
+        result (λ _.
+        IsEvidenceOrder second.now evidence.now supers.new.graphs.graphs.items order.new) }
 {
     if (step.element as usize) >= evidence.elements.as_slice().len() {
         return Ok(Some(1));
@@ -132,13 +158,22 @@ pub fn check_steps(
     order: &mut Order,
     supers: &mut Supers,
 ) -> Result<(), CheckFault>
-    requires supers { AreSupers mode first.now second.now evidence.now.elements (length evidence.now.elements) supers.old }
-    requires order { IsEvidenceOrder second.now evidence.now supers.old.graphs.graphs.items order.old }
+    requires supers { AreSupers mode first.now second.now evidence.now.elements
+        (length evidence.now.elements) supers.old }
+    requires order { IsEvidenceOrder second.now evidence.now supers.old.graphs.graphs.items
+        order.old }
     requires few_steps { length evidence.now.steps < 10 ^ 9 }
     requires few_items { item + length evidence.now.steps < 2 ^ 32 }
-    ensures tells { Tells (checks_of_each (step_checks mode first.now second.now evidence.now item) 0 evidence.now.steps) result }
-    ensures supers { IfOk result (λ _. AreSupers mode first.now second.now evidence.now.elements (length evidence.now.elements) supers.new) }
-    ensures order { IfOk result (λ _. IsEvidenceOrder second.now evidence.now supers.new.graphs.graphs.items order.new) }
+    ensures tells { Tells
+        (checks_of_each (step_checks mode first.now second.now evidence.now item) 0
+        evidence.now.steps) result }
+    ensures supers { IfOk
+        result (λ _.
+        AreSupers mode first.now second.now evidence.now.elements (length evidence.now.elements)
+        supers.new) }
+    ensures order { IfOk
+        result (λ _.
+        IsEvidenceOrder second.now evidence.now supers.new.graphs.graphs.items order.new) }
 {
     let lines = evidence.steps.as_slice();
     for k in 0..lines.len() {

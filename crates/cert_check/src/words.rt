@@ -14,8 +14,11 @@ use std::alloc::Global;
 
 /// The word, if it separates the two automata; otherwise the first broken rule.
 pub fn check_word(alloc: Global, pair: &Joined, word: &Word) -> Result<Verdict, CheckFault>
-    ensures valid { IfOk result (λ verdict. (verdict ≡ Verdict.ApartWord word.now) × AllHold (word_checks pair.now word.now)) }
-    ensures refused { (refusal : Refusal) → result ≡ Err (CheckFault.Refused refusal) → FirstBroken (word_checks pair.now word.now) refusal }
+    ensures valid { IfOk
+        result (λ verdict.
+        (verdict ≡ Verdict.ApartWord word.now) × AllHold (word_checks pair.now word.now)) }
+    ensures refused { (refusal : Refusal) → result ≡ Err (CheckFault.Refused refusal)
+        → FirstBroken (word_checks pair.now word.now) refusal }
 {
     if !are_labels(word.as_slice(), pair.labels.count()) {
         return Err(CheckFault::Refused(Refusal { rule: 1, item: 1 }));

@@ -60,7 +60,8 @@ word_in keyword = as_shape (Word keyword ∷ []) tail.Nothing (λ tokens. Ok tt)
 
 -- A line of a word and a number.
 abbrev pub number_in : Keyword → Line → Said ℕ
-number_in keyword = as_shape (Word keyword ∷ Number ∷ []) tail.Nothing (λ tokens. Ok (value_at tokens 1))
+number_in keyword =
+    as_shape (Word keyword ∷ Number ∷ []) tail.Nothing (λ tokens. Ok (value_at tokens 1))
 
 -- A line of a word and numbers.
 abbrev pub numbers_in : Keyword → Tail → Line → Said (List ℕ)
@@ -69,13 +70,19 @@ numbers_in keyword tail = as_shape (Word keyword ∷ []) tail (λ tokens. Ok (va
 -- A line of a word and numbers that ascend.
 abbrev pub ascending_in : Keyword → Tail → Line → Said (List ℕ)
 ascending_in keyword tail =
-    as_shape (Word keyword ∷ []) tail (λ tokens. in_order (ascend (values_from 1 tokens)) (values_from 1 tokens))
+    as_shape (Word keyword ∷ [])
+    tail (λ tokens. in_order (ascend (values_from 1 tokens)) (values_from 1 tokens))
 
 -- The line of sizes.
 abbrev pub sizes_in : Line → Said Sizes
 sizes_in =
     as_shape (Word keyword.Sizes ∷ Number ∷ Number ∷ Number ∷ []) tail.Nothing
-    (λ tokens. Ok (record { first_states = value_at tokens 1; second_states = value_at tokens 2; labels = value_at tokens 3 }))
+    (λ tokens.
+    Ok (record {
+      first_states = value_at tokens 1;
+      second_states = value_at tokens 2;
+      labels = value_at tokens 3;
+    }))
 
 -- Numbers taken two by two; one that is left over is none of them.
 abbrev pub by_two : {A : Type 0} → (ℕ → ℕ → A) → List ℕ → List A
@@ -93,7 +100,8 @@ runs_of_ends ns = by_two run ns
 -- A run before others, joined with the first of them where that one begins right after it.
 abbrev pub onto_runs : Run → List Run → List Run
 onto_runs r [] = r ∷ []
-onto_runs r (next ∷ runs) = if r.last + 1 == next.first then run r.first next.last ∷ runs else r ∷ next ∷ runs
+onto_runs r (next ∷ runs) =
+    if r.last + 1 == next.first then run r.first next.last ∷ runs else r ∷ next ∷ runs
 
 -- Numbers as runs, those that follow one another joined.
 abbrev pub joined_runs : List ℕ → List Run
@@ -108,7 +116,8 @@ runs_of v ns = if v == 2 then runs_of_ends ns else joined_runs ns
 abbrev pub row_tail : ℕ → Tail
 row_tail v = if v == 2 then tail.Pairs 0 else tail.SomeNumbers
 
--- The numbers of a row are in order: in version 1 they ascend, in version 2 they are the ends of runs that ascend.
+-- The numbers of a row are in order: in version 1 they ascend, in version 2 they are the ends of
+-- runs that ascend.
 abbrev pub row_ascends : ℕ → List ℕ → Bool
 row_ascends v ns = if v == 2 then runs_ascend (runs_of_ends ns) else ascend ns
 
@@ -119,7 +128,9 @@ row_of v tokens = record { left = value_at tokens 1; runs = runs_of v (values_fr
 abbrev pub row_in : ℕ → ℕ → Line → Said Row
 row_in v bound =
     as_shape (Word keyword.Row ∷ Number ∷ []) (row_tail v)
-    (λ tokens. in_order (row_ascends v (values_from 2 tokens) && nat_le bound (row_of v tokens).left) (row_of v tokens))
+    (λ tokens.
+    in_order (row_ascends v (values_from 2 tokens) && nat_le bound (row_of v tokens).left)
+    (row_of v tokens))
 
 -- Numbers as right numbers with their codes.
 abbrev pub ranked : ℕ → ℕ → Ranked
@@ -136,12 +147,14 @@ rank_row_of count tokens = record {
   rights = ranked_of (values_from (count + 2) tokens);
 }
 
--- A row of a relation with ranks for so many announced letters, its left number and word behind the key.
+-- A row of a relation with ranks for so many announced letters, its left number and word behind the
+-- key.
 abbrev pub rank_row_in : ℕ → List ℕ → Line → Said RankRow
 rank_row_in letters key =
     as_shape (Word keyword.Row ∷ Number ∷ []) (tail.Pairs (letters - 1))
     (λ tokens. in_order
-    (ascend (rights_of (rank_row_of (letters - 1) tokens).rights) && is_less key (rank_key (rank_row_of (letters - 1) tokens)))
+    (ascend (rights_of (rank_row_of (letters - 1) tokens).rights)
+    && is_less key (rank_key (rank_row_of (letters - 1) tokens)))
     (rank_row_of (letters - 1) tokens))
 
 -- Numbers as what goes and by what.
@@ -155,7 +168,9 @@ gone_by_of ns = by_two gone_by ns
 abbrev pub gone_by_in : Line → Said (List GoneBy)
 gone_by_in =
     as_shape (Word keyword.Gone ∷ []) (tail.Pairs 0)
-    (λ tokens. in_order (ascend (gone_of (gone_by_of (values_from 1 tokens)))) (gone_by_of (values_from 1 tokens)))
+    (λ tokens.
+    in_order (ascend (gone_of (gone_by_of (values_from 1 tokens))))
+    (gone_by_of (values_from 1 tokens)))
 
 -- The head of a trim.
 abbrev pub trim_in : {A : Type 0} → (List ℕ → A) → Line → Said A
@@ -190,7 +205,8 @@ merge_places direction = Word keyword.Merge ∷ Word direction ∷ Number ∷ []
 -- The head of a merge by delayed simulation: in version 1 one letter is announced.
 abbrev pub plain_delayed_in : Line → Said SecondHead
 plain_delayed_in =
-    as_shape (Word keyword.Merge ∷ Word keyword.Delayed ∷ []) tail.Nothing (λ tokens. Ok (second.Merge (way.Delayed 1)))
+    as_shape (Word keyword.Merge ∷ Word keyword.Delayed ∷ [])
+    tail.Nothing (λ tokens. Ok (second.Merge (way.Delayed 1)))
 
 -- In version 2 the head says how many.
 abbrev pub announced_delayed_in : Line → Said SecondHead
@@ -203,7 +219,8 @@ announced_delayed_in =
 abbrev pub delayed_in : ℕ → Line → Said SecondHead
 delayed_in v tokens = if v == 2 then announced_delayed_in tokens else plain_delayed_in tokens
 
--- The head of a merge by delayed simulation or of a cut; in a finite file only a cut may stand there.
+-- The head of a merge by delayed simulation or of a cut; in a finite file only a cut may stand
+-- there.
 abbrev pub delayed_or_cut_in : ℕ → Mode → Line → Said SecondHead
 delayed_or_cut_in v (mode.Buchi) =
     either (Word keyword.Merge ∷ Word keyword.Delayed ∷ []) (delayed_in v) second_cut_in
@@ -213,9 +230,11 @@ delayed_or_cut_in v (mode.Finite) = second_cut_in
 abbrev pub merge_or_cut_in : ℕ → Mode → Line → Said SecondHead
 merge_or_cut_in v m =
     either (merge_places keyword.Forward)
-    (as_shape (merge_places keyword.Forward) tail.Nothing (λ tokens. Ok (second.Merge (way.Forward (value_at tokens 2)))))
+    (as_shape (merge_places keyword.Forward)
+    tail.Nothing (λ tokens. Ok (second.Merge (way.Forward (value_at tokens 2)))))
     (either (merge_places keyword.Backward)
-    (as_shape (merge_places keyword.Backward) tail.Nothing (λ tokens. Ok (second.Merge (way.Backward (value_at tokens 2)))))
+    (as_shape (merge_places keyword.Backward)
+    tail.Nothing (λ tokens. Ok (second.Merge (way.Backward (value_at tokens 2)))))
     (delayed_or_cut_in v m))
 
 -- The head of a step of the second log.
@@ -234,13 +253,18 @@ next_places = Word keyword.Next ∷ Number ∷ Number ∷ []
 
 -- Where an element comes from, in a list.
 abbrev pub next_origin_in : Line → Said Origin
-next_origin_in = as_shape next_places tail.Nothing (λ tokens. Ok (origin.Next (value_at tokens 1) (value_at tokens 2)))
+next_origin_in =
+    as_shape next_places
+    tail.Nothing (λ tokens. Ok (origin.Next (value_at tokens 1) (value_at tokens 2)))
 
 abbrev pub origin_in : Mode → Line → Said Origin
 origin_in (mode.Buchi) =
-    either base_places (as_shape base_places tail.Nothing (λ tokens. Ok (origin.Base (value_at tokens 1)))) next_origin_in
+    either base_places
+    (as_shape base_places tail.Nothing (λ tokens. Ok (origin.Base (value_at tokens 1))))
+    next_origin_in
 origin_in (mode.Finite) =
-    either start_places (as_shape start_places tail.Nothing (λ tokens. Ok origin.Start)) next_origin_in
+    either start_places (as_shape start_places tail.Nothing (λ tokens. Ok origin.Start))
+    next_origin_in
 
 -- The places of an element's line: its mark and then its origin.
 abbrev pub live_base : List Place
@@ -272,23 +296,28 @@ under j from = record { mark = mark.Under j; origin = from }
 abbrev pub next_element_in : Line → Said Element
 next_element_in =
     either live_next
-    (as_shape live_next tail.Nothing (λ tokens. Ok (live (origin.Next (value_at tokens 2) (value_at tokens 3)))))
+    (as_shape live_next
+    tail.Nothing (λ tokens. Ok (live (origin.Next (value_at tokens 2) (value_at tokens 3)))))
     (as_shape under_next tail.Nothing
-    (λ tokens. Ok (under (value_at tokens 1) (origin.Next (value_at tokens 3) (value_at tokens 4)))))
+    (λ tokens.
+    Ok (under (value_at tokens 1) (origin.Next (value_at tokens 3) (value_at tokens 4)))))
 
 -- An element of a Büchi yes.
 abbrev pub base_element_in : Line → Said Element
 base_element_in =
-    either live_base (as_shape live_base tail.Nothing (λ tokens. Ok (live (origin.Base (value_at tokens 2)))))
+    either live_base
+    (as_shape live_base tail.Nothing (λ tokens. Ok (live (origin.Base (value_at tokens 2)))))
     (either under_base
-    (as_shape under_base tail.Nothing (λ tokens. Ok (under (value_at tokens 1) (origin.Base (value_at tokens 3)))))
+    (as_shape under_base
+    tail.Nothing (λ tokens. Ok (under (value_at tokens 1) (origin.Base (value_at tokens 3)))))
     next_element_in)
 
 -- An element of a finite yes.
 abbrev pub start_element_in : Line → Said Element
 start_element_in =
     either live_start (as_shape live_start tail.Nothing (λ tokens. Ok (live origin.Start)))
-    (either under_start (as_shape under_start tail.Nothing (λ tokens. Ok (under (value_at tokens 1) origin.Start)))
+    (either under_start
+    (as_shape under_start tail.Nothing (λ tokens. Ok (under (value_at tokens 1) origin.Start)))
     next_element_in)
 
 -- An element of a yes.
@@ -308,7 +337,8 @@ step_in n =
 -- The places of the first line.
 abbrev pub heading_places : Heading → List Place
 heading_places h =
-    Word keyword.RabitCert ∷ Word (version_word h.version) ∷ Word (mode_word h.mode) ∷ Word (form_word h.form) ∷ []
+    Word keyword.RabitCert ∷ Word (version_word h.version) ∷ Word (mode_word h.mode)
+    ∷ Word (form_word h.form) ∷ []
 
 -- Whether the line is the first line of a certificate of this version, mode and form.
 abbrev pub is_heading : Heading → Line → Bool
@@ -334,7 +364,8 @@ mode_heading_in v m tokens =
 
 -- One of the six headings of this version.
 abbrev pub version_heading_in : ℕ → Line → Option Heading
-version_heading_in v tokens = or_else (mode_heading_in v mode.Buchi tokens) (mode_heading_in v mode.Finite tokens)
+version_heading_in v tokens =
+    or_else (mode_heading_in v mode.Buchi tokens) (mode_heading_in v mode.Finite tokens)
 
 -- What there is, or else that the heading is wrong.
 abbrev pub heading_said : Option Heading → Said Heading
@@ -343,4 +374,5 @@ heading_said None = Err kind.Header
 
 -- The first line has one of twelve headings.
 abbrev pub heading_in : Line → Said Heading
-heading_in tokens = heading_said (or_else (version_heading_in 1 tokens) (version_heading_in 2 tokens))
+heading_in tokens =
+    heading_said (or_else (version_heading_in 1 tokens) (version_heading_in 2 tokens))

@@ -16,7 +16,9 @@ use Rattle.cert_value.specs.WellFormed.{has_some}
 abbrev pub is_number : List ℕ → Bool
 is_number token =
     nat_lt 0 (length token)
-    && (nat_lt (length token) 10 && ((nat_lt (length token) 2 || not (slice_index token 0 == 48)) && list_all is_digit token))
+    && (nat_lt (length token) 10
+    && ((nat_lt (length token) 2 || not (slice_index token 0 == 48))
+    && list_all is_digit token))
 
 -- The number that the token writes, if it writes one.
 abbrev pub number_of : List ℕ → Option ℕ
@@ -51,7 +53,8 @@ is_closed (tail.Numbers) = false
 is_closed (tail.SomeNumbers) = false
 is_closed (tail.Pairs k) = false
 
--- Every token in a number's place is a number. What follows the places is in numbers' places, unless nothing may follow.
+-- Every token in a number's place is a number. What follows the places is in numbers' places,
+-- unless nothing may follow.
 abbrev pub has_numbers : List Place → Tail → Line → Bool
 has_numbers places tail tokens =
     list_all (λ x. has_number x.0 x.1) (zip places tokens)

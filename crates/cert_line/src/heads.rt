@@ -94,7 +94,8 @@ fn plain_delayed_in(line: &[u8]) -> Result<SecondHead, LineFault>
     }
 }
 
-/// The head of a merge by delayed simulation in version 2, which says how many letters are announced.
+/// The head of a merge by delayed simulation in version 2, which says how many letters are
+/// announced.
 fn announced_delayed_in(line: &[u8]) -> Result<SecondHead, LineFault>
     ensures { Agrees (announced_delayed_in (tokens_of line.now)) result }
 {

@@ -344,14 +344,17 @@ fn rank_row_of(alloc: Global, count: usize, line: &[u8]) -> Result<RankRow, Memo
     })
 }
 
-/// A row of a relation with ranks for so many announced letters, after the row before it, if there is one.
+/// A row of a relation with ranks for so many announced letters, after the row before it, if there
+/// is one.
 pub fn rank_row_in(
     alloc: Global,
     letters: u32,
     before: Option<&RankRow>,
     line: &[u8],
 ) -> Result<RankRow, LineFault>
-    ensures { Agrees (rank_row_in letters (key_before (option_copied before.entry)) (tokens_of line.now)) result }
+    ensures { Agrees
+        (rank_row_in letters (key_before (option_copied before.entry)) (tokens_of line.now))
+        result }
 {
     let count = letters.saturating_sub(1) as usize;
     let places = [Place::Word(Keyword::Row), Place::Number];

@@ -34,7 +34,8 @@ pub enum Tail {
     Pairs(usize),
 }
 
-/// The number that the token writes, if it writes one: `0`, or a digit other than 0 followed by at most eight digits.
+/// The number that the token writes, if it writes one: `0`, or a digit other than 0 followed by at
+/// most eight digits.
 pub(crate) fn number_of(token: &[u8]) -> Option<u32>
     ensures { result ≡ number_of token.now }
 {
@@ -237,7 +238,8 @@ pub(crate) fn values_in(
     number: usize,
     count: usize,
 ) -> Result<List<u32>, Memory>
-    ensures { IfOk result (λ values. values ≡ take count (values_from number (tokens_of line.now))) }
+    ensures { IfOk
+        result (λ values. values ≡ take count (values_from number (tokens_of line.now))) }
 {
     let mut values = List::new(alloc);
     let mut tokens = Tokens::behind(line, number);

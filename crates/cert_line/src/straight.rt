@@ -1,4 +1,5 @@
-//! Lines of elements and of steps, read straight, token by token, where they are the text of one. What is wrong with others is told elsewhere.
+//! Lines of elements and of steps, read straight, token by token, where they are the text of one.
+//! What is wrong with others is told elsewhere.
 
 ghost use Rattle.std.specs.Prelude.{◌≡◌, ◌∷◌, [], ◌++◌, Ok, true, decimal, IsTrue, IfOk, IfSome};
 ghost use Rattle.cert_value.specs.Tokens.{tokens_of};
@@ -39,7 +40,8 @@ fn next_number(tokens: &mut Tokens) -> Option<u32>
 
 /// The numbers that all tokens are the text of.
 fn numbers_in_all(alloc: Global, all: Tokens) -> Result<Option<List<u32>>, Memory>
-    ensures { IfOk result (λ told. IfSome told (λ ns. (all.entry ≡ numbers ns) × (are_short ns ≡ true))) }
+    ensures { IfOk
+        result (λ told. IfSome told (λ ns. (all.entry ≡ numbers ns) × (are_short ns ≡ true))) }
 {
     let mut values = List::new(alloc);
     let mut tokens = all;
@@ -54,7 +56,9 @@ fn numbers_in_all(alloc: Global, all: Tokens) -> Result<Option<List<u32>>, Memor
 
 /// The origin that the word and the next tokens are the text of.
 fn origin_after(mode: Mode, word: &[u8], tokens: &mut Tokens) -> Option<Origin>
-    ensures { IfSome result (λ from. (word.now ∷ tokens.old ≡ origin_line from ++ tokens.new) × (is_origin mode from ≡ true)) }
+    ensures { IfSome
+        result (λ from.
+        (word.now ∷ tokens.old ≡ origin_line from ++ tokens.new) × (is_origin mode from ≡ true)) }
 {
     if is_word(word, Keyword::Next) {
         let parent = next_number(tokens)?;
@@ -78,7 +82,8 @@ fn origin_after(mode: Mode, word: &[u8], tokens: &mut Tokens) -> Option<Origin>
 
 /// The origin that all tokens are the text of.
 fn origin_in_all(mode: Mode, all: Tokens) -> Option<Origin>
-    ensures { IfSome result (λ from. (all.entry ≡ origin_line from) × (is_origin mode from ≡ true)) }
+    ensures { IfSome
+        result (λ from. (all.entry ≡ origin_line from) × (is_origin mode from ≡ true)) }
 {
     let mut tokens = all;
     let word = tokens.next()?;
@@ -91,7 +96,8 @@ fn origin_in_all(mode: Mode, all: Tokens) -> Option<Origin>
 
 /// The mark that the next tokens are the text of.
 fn next_mark(tokens: &mut Tokens) -> Option<Mark>
-    ensures { IfSome result (λ mark. (tokens.old ≡ mark_tokens mark ++ tokens.new) × (is_mark mark ≡ true)) }
+    ensures { IfSome
+        result (λ mark. (tokens.old ≡ mark_tokens mark ++ tokens.new) × (is_mark mark ≡ true)) }
 {
     let word = tokens.next()?;
     if is_word(word, Keyword::Live) {
@@ -126,7 +132,8 @@ pub(crate) fn straight_step(
     number: usize,
     line: &[u8],
 ) -> Result<Option<StepLine>, Memory>
-    ensures { IfOk result (λ told. IfSome told (λ step. step_in number (tokens_of line.now) ≡ Ok step)) }
+    ensures { IfOk
+        result (λ told. IfSome told (λ step. step_in number (tokens_of line.now) ≡ Ok step)) }
 {
     let mut tokens = Tokens::of(line);
     match tokens.next() {

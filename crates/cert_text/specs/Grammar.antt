@@ -1,5 +1,5 @@
--- Which line may follow which. Each `read_..` takes what it reads off the lines that are left and goes on with `next`, so
--- that no line is refused for what could not follow it.
+-- Which line may follow which. Each `read_..` takes what it reads off the lines that are left and
+-- goes on with `next`, so that no line is refused for what could not follow it.
 use Rattle.std.specs.Prelude.{ℕ, zero, suc, ◌+◌, ◌-◌, List, [], ◌∷◌, ◌++◌, length, map, Bool, true, false, Result, Ok, Err, cond, ◌==◌}
 use Rattle.std.specs.List.{slice_split}
 use Rattle.auto_core.specs.declared.parts.Mode.{Mode}
@@ -41,7 +41,8 @@ use Rattle.cert_value.specs.Tokens.{tokens_of}
 use Rattle.cert_value.specs.WellFormed.{blocks_due, is_live, rank_key}
 use Rattle.cert_line.specs.Lines.{Said, word_in, number_in, numbers_in, ascending_in, sizes_in, heading_in, row_in, rank_row_in, gone_by_in, first_head_in, second_head_in, origin_in, element_in, step_in}
 
--- What comes of reading lines: the value that they are the text of, or a fault at the first of these lines.
+-- What comes of reading lines: the value that they are the text of, or a fault at the first of
+-- these lines.
 pub data LinesOutcome (C : Type 0) : Type 0 where
   Read : C → LinesOutcome C
   Stopped : TextKind → List Line → LinesOutcome C
@@ -66,10 +67,12 @@ after (Err fault) next here rest = Stopped fault here
 abbrev pub next_line : {C A : Type 0} → (Line → Said A) → On C A → List Line → LinesOutcome C
 next_line said next [] = Stopped Truncated []
 next_line said next (piece ∷ []) = Stopped Truncated (piece ∷ [])
-next_line said next (line ∷ other ∷ rest) = after (said line) next (line ∷ other ∷ rest) (other ∷ rest)
+next_line said next (line ∷ other ∷ rest) =
+    after (said line) next (line ∷ other ∷ rest) (other ∷ rest)
 
 -- That many rows, whose left numbers ascend from the bound, after these.
-abbrev pub read_rows : {C : Type 0} → ℕ → ℕ → ℕ → List Row → On C (List Row) → List Line → LinesOutcome C
+abbrev pub read_rows : {C : Type 0} → ℕ → ℕ → ℕ → List Row → On C (List Row) → List Line
+    → LinesOutcome C
 read_rows v zero bound rows next lines = next rows lines
 read_rows v (suc n) bound rows next lines =
     next_line (row_in v bound) (λ row. read_rows v n (row.left + 1) (rows ++ row ∷ []) next) lines
@@ -77,23 +80,30 @@ read_rows v (suc n) bound rows next lines =
 -- A relation.
 abbrev pub read_block : {C : Type 0} → ℕ → On C RelBlock → List Line → LinesOutcome C
 read_block v next =
-    next_line (number_in keyword.Rel) (λ n. read_rows v n 0 [] (λ rows. next (record { rows = rows })))
+    next_line
+    (number_in keyword.Rel) (λ n. read_rows v n 0 [] (λ rows. next (record { rows = rows })))
 
 -- That many rows with ranks, whose left numbers and words ascend past the key, after these.
-abbrev pub read_rank_rows : ℕ → ℕ → List ℕ → List RankRow → Then (List RankRow) → List Line → ReadOutcome
+abbrev pub read_rank_rows : ℕ → ℕ → List ℕ → List RankRow → Then (List RankRow) → List Line
+    → ReadOutcome
 read_rank_rows letters zero key rows next lines = next rows lines
 read_rank_rows letters (suc n) key rows next lines =
-    next_line (rank_row_in letters key) (λ row. read_rank_rows letters n (rank_key row) (rows ++ row ∷ []) next) lines
+    next_line
+    (rank_row_in letters key) (λ row.
+    read_rank_rows letters n (rank_key row) (rows ++ row ∷ []) next) lines
 
 -- A relation with ranks.
 abbrev pub read_rank_block : ℕ → Then RankBlock → List Line → ReadOutcome
 read_rank_block letters next =
-    next_line (number_in keyword.Rel) (λ n. read_rank_rows letters n [] [] (λ rows. next (record { rows = rows })))
+    next_line
+    (number_in keyword.Rel) (λ n.
+    read_rank_rows letters n [] [] (λ rows. next (record { rows = rows })))
 
 -- That many relations, after these.
 abbrev pub read_blocks : ℕ → ℕ → List RelBlock → Then (List RelBlock) → List Line → ReadOutcome
 read_blocks v zero blocks next lines = next blocks lines
-read_blocks v (suc n) blocks next lines = read_block v (λ block. read_blocks v n (blocks ++ block ∷ []) next) lines
+read_blocks v (suc n) blocks next lines =
+    read_block v (λ block. read_blocks v n (blocks ++ block ∷ []) next) lines
 
 -- The classes of the states.
 abbrev pub read_classes : Then (List ℕ) → List Line → ReadOutcome
@@ -104,10 +114,13 @@ abbrev pub read_first_rest : ℕ → FirstHead → Then FirstStep → List Line 
 read_first_rest v (first_head.Trim kept) next = next (first.Trim kept)
 read_first_rest v (first_head.Merge) next = read_classes (λ classes. next (first.Merge classes))
 read_first_rest v (first_head.Cut pair look) next =
-    next_line gone_by_in (λ gone. read_blocks v (blocks_due pair) [] (λ blocks. next (first.Cut pair look gone blocks)))
+    next_line
+    gone_by_in (λ gone.
+    read_blocks v (blocks_due pair) [] (λ blocks. next (first.Cut pair look gone blocks)))
 
 -- That many steps of the first log, after these.
-abbrev pub read_first_steps : ℕ → ℕ → List FirstStep → Then (List FirstStep) → List Line → ReadOutcome
+abbrev pub read_first_steps : ℕ → ℕ → List FirstStep → Then (List FirstStep) → List Line
+    → ReadOutcome
 read_first_steps v zero steps next lines = next steps lines
 read_first_steps v (suc n) steps next lines =
     next_line first_head_in
@@ -125,16 +138,19 @@ read_grounds v (way.Delayed letters) classes next =
 -- The rest of a step of the second log.
 abbrev pub read_second_rest : ℕ → SecondHead → Then SecondStep → List Line → ReadOutcome
 read_second_rest v (second_head.Trim kept) next = next (second.Trim kept)
-read_second_rest v (second_head.Merge way) next = read_classes (λ classes. read_grounds v way classes next)
+read_second_rest v (second_head.Merge way) next =
+    read_classes (λ classes. read_grounds v way classes next)
 read_second_rest v (second_head.Cut) next =
     next_line (ascending_in keyword.Gone tail.SomeNumbers) (λ gone. next (second.Cut gone))
 
 -- That many steps of the second log, after these.
-abbrev pub read_second_steps : ℕ → Mode → ℕ → List SecondStep → Then (List SecondStep) → List Line → ReadOutcome
+abbrev pub read_second_steps : ℕ → Mode → ℕ → List SecondStep → Then (List SecondStep) → List Line
+    → ReadOutcome
 read_second_steps v m zero steps next lines = next steps lines
 read_second_steps v m (suc n) steps next lines =
     next_line (second_head_in v m)
-    (λ head. read_second_rest v head (λ step. read_second_steps v m n (steps ++ step ∷ []) next)) lines
+    (λ head. read_second_rest v head (λ step. read_second_steps v m n (steps ++ step ∷ []) next))
+    lines
 
 -- That many elements of a yes, after these.
 abbrev pub read_elements : Mode → ℕ → List Element → Then (List Element) → List Line → ReadOutcome
@@ -143,7 +159,8 @@ read_elements m (suc n) elements next lines =
     next_line (element_in m) (λ e. read_elements m n (elements ++ e ∷ []) next) lines
 
 -- One line for each of these elements that is live, the first of them having the number n.
-abbrev pub read_steps : ℕ → List Element → List StepLine → Then (List StepLine) → List Line → ReadOutcome
+abbrev pub read_steps : ℕ → List Element → List StepLine → Then (List StepLine) → List Line
+    → ReadOutcome
 read_steps n [] steps next lines = next steps lines
 read_steps n (e ∷ es) steps next lines =
     cond (is_live e.mark)
@@ -164,7 +181,9 @@ read_cover order elements next =
 
 abbrev pub read_all_elements : Mode → RelBlock → Then Closed → List Line → ReadOutcome
 read_all_elements m order next =
-    next_line (number_in keyword.Elements) (λ n. read_elements m n [] (λ elements. read_cover order elements next))
+    next_line
+    (number_in keyword.Elements) (λ n.
+    read_elements m n [] (λ elements. read_cover order elements next))
 
 -- What a yes has after the logs.
 abbrev pub read_closed : ℕ → Mode → Then Closed → List Line → ReadOutcome
@@ -190,10 +209,13 @@ read_second_log v m next = next_line (number_in keyword.Log2) (λ n. read_second
 -- A lasso.
 abbrev pub read_turn : List ℕ → Then Body → List Line → ReadOutcome
 read_turn prefix next =
-    next_line (numbers_in keyword.Loop tail.SomeNumbers) (λ turn. next (body.NoLasso (record { prefix = prefix; turn = turn })))
+    next_line
+    (numbers_in keyword.Loop tail.SomeNumbers) (λ turn.
+    next (body.NoLasso (record { prefix = prefix; turn = turn })))
 
 abbrev pub read_lasso : Then Body → List Line → ReadOutcome
-read_lasso next = next_line (numbers_in keyword.Prefix tail.Numbers) (λ prefix. read_turn prefix next)
+read_lasso next =
+    next_line (numbers_in keyword.Prefix tail.Numbers) (λ prefix. read_turn prefix next)
 
 -- A word.
 abbrev pub read_word : Then Body → List Line → ReadOutcome
@@ -212,17 +234,28 @@ yes_of firsts seconds closed = body.Yes (record {
 
 abbrev pub list_of : List FirstStep → List SecondStep → ListPart → Body
 list_of firsts seconds list_part =
-    body.Listing (record { first = firsts; second = seconds; limit = list_part.limit; elements = list_part.elements })
+    body.Listing
+    (record {
+      first = firsts;
+      second = seconds;
+      limit = list_part.limit;
+      elements = list_part.elements;
+    })
 
 -- The evidence behind the logs. A no has no logs, and so none comes here.
-abbrev pub read_evidence : ℕ → Mode → Form → List FirstStep → List SecondStep → Then Body → List Line → ReadOutcome
-read_evidence v m (form.Yes) firsts seconds next = read_closed v m (λ closed. next (yes_of firsts seconds closed))
-read_evidence v m (form.No) firsts seconds next = read_closed v m (λ closed. next (yes_of firsts seconds closed))
-read_evidence v m (form.List) firsts seconds next = read_list_part m (λ list_part. next (list_of firsts seconds list_part))
+abbrev pub read_evidence : ℕ → Mode → Form → List FirstStep → List SecondStep → Then Body
+    → List Line → ReadOutcome
+read_evidence v m (form.Yes) firsts seconds next =
+    read_closed v m (λ closed. next (yes_of firsts seconds closed))
+read_evidence v m (form.No) firsts seconds next =
+    read_closed v m (λ closed. next (yes_of firsts seconds closed))
+read_evidence v m (form.List) firsts seconds next =
+    read_list_part m (λ list_part. next (list_of firsts seconds list_part))
 
 -- The logs, and what follows them.
 abbrev pub read_after_first : ℕ → Mode → Form → List FirstStep → Then Body → List Line → ReadOutcome
-read_after_first v m f firsts next = read_second_log v m (λ seconds. read_evidence v m f firsts seconds next)
+read_after_first v m f firsts next =
+    read_second_log v m (λ seconds. read_evidence v m f firsts seconds next)
 
 abbrev pub read_logs : ℕ → Mode → Form → Then Body → List Line → ReadOutcome
 read_logs v m f next = read_first_log v (λ firsts. read_after_first v m f firsts next)
@@ -264,7 +297,8 @@ read_end c = next_line (word_in keyword.End) (λ u. finish c)
 
 -- What follows the line of sizes.
 abbrev pub read_rest : Heading → Sizes → List Line → ReadOutcome
-read_rest h sizes = read_body h.version h.mode h.form (λ b. read_end (cert_of h.version h.mode sizes b))
+read_rest h sizes =
+    read_body h.version h.mode h.form (λ b. read_end (cert_of h.version h.mode sizes b))
 
 -- What follows the first line.
 abbrev pub read_sizes : Heading → List Line → ReadOutcome
@@ -289,9 +323,11 @@ abbrev pub line_left : {C : Type 0} → List Line → LinesOutcome C → ℕ
 line_left lines (Read c) = 0
 line_left lines (Stopped fault rest) = (length lines + 1) - length rest
 
--- What the bytes are, as this grammar reads lines: a value's text, or where they first begin none, and why.
+-- What the bytes are, as this grammar reads lines: a value's text, or where they first begin none,
+-- and why.
 abbrev pub reading_by : {C : Type 0} → (List Line → LinesOutcome C) → List ℕ → Result C TextFault
-reading_by read bytes = told_at (line_left (lines_of bytes) (read (lines_of bytes))) (read (lines_of bytes))
+reading_by read bytes =
+    told_at (line_left (lines_of bytes) (read (lines_of bytes))) (read (lines_of bytes))
 
 -- What the bytes are: a certificate's text, or where they first begin none, and why.
 abbrev pub reading : List ℕ → Result Cert TextFault

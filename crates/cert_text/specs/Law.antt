@@ -6,10 +6,12 @@ use Rattle.cert_value.specs.Text.{text}
 use Rattle.cert_value.specs.WellFormed.{WellFormed}
 use Rattle.cert_text.specs.Grammar.{reading}
 
--- No text of a certificate is a proper front of another's, and different certificates have different texts.
+-- No text of a certificate is a proper front of another's, and different certificates have
+-- different texts.
 abbrev pub OneText : Type 0
 OneText =
-    (c d : Cert) (more : List ℕ) → WellFormed c → WellFormed d → text c ++ more ≡ text d → (more ≡ []) × (c ≡ d)
+    (c d : Cert) (more : List ℕ) → WellFormed c → WellFormed d → text c ++ more ≡ text d
+    → (more ≡ []) × (c ≡ d)
 
 -- The bytes are no certificate's text, and this is their first fault.
 abbrev pub FirstFault : List ℕ → TextFault → Type 0

@@ -72,7 +72,8 @@ on_or n over more = cond (n == 0) over (more (n - 1))
 
 -- Relations.
 unfoldable pub rows_due : List Row → ℕ → ℕ → PartSoFar BlockState RelBlock
-rows_due rows bound n = on_or n (Whole (record { rows = rows })) (λ later. More (block.Row rows bound later))
+rows_due rows bound n =
+    on_or n (Whole (record { rows = rows })) (λ later. More (block.Row rows bound later))
 
 unfoldable pub step_block : ℕ → BlockState → Line → Said (PartSoFar BlockState RelBlock)
 step_block v (block.Count) line = map_said (λ n. rows_due [] 0 n) (number_in keyword.Rel line)
@@ -84,22 +85,29 @@ abbrev pub last_key : List RankRow → List ℕ
 last_key rows = key_before (slice_get rows (length rows - 1))
 
 unfoldable pub rank_rows_due : List RankRow → ℕ → PartSoFar RankState RankBlock
-rank_rows_due rows n = on_or n (Whole (record { rows = rows })) (λ later. More (rank.Row rows later))
+rank_rows_due rows n =
+    on_or n (Whole (record { rows = rows })) (λ later. More (rank.Row rows later))
 
 unfoldable pub step_ranks : ℕ → RankState → Line → Said (PartSoFar RankState RankBlock)
-step_ranks letters (rank.Count) line = map_said (λ n. rank_rows_due [] n) (number_in keyword.Rel line)
+step_ranks letters (rank.Count) line =
+    map_said (λ n. rank_rows_due [] n) (number_in keyword.Rel line)
 step_ranks letters (rank.Row rows later) line =
-    map_said (λ row. rank_rows_due (rows ++ row ∷ []) later) (rank_row_in letters (last_key rows) line)
+    map_said (λ row. rank_rows_due (rows ++ row ∷ []) later)
+    (rank_row_in letters (last_key rows) line)
 
 -- Steps of the first log.
-unfoldable pub blocks_left : ℕ → ℕ → List GoneBy → List RelBlock → ℕ → PartSoFar FirstState FirstStep
+unfoldable pub blocks_left : ℕ → ℕ → List GoneBy → List RelBlock → ℕ
+    → PartSoFar FirstState FirstStep
 blocks_left pair look gone blocks n =
     on_or n (Whole (first.Cut pair look gone blocks))
     (λ later. More (first_state.Blocks pair look gone blocks later block.Count))
 
-unfoldable pub with_rel_block : ℕ → ℕ → List GoneBy → List RelBlock → ℕ → PartSoFar BlockState RelBlock → PartSoFar FirstState FirstStep
-with_rel_block pair look gone blocks later (More at) = More (first_state.Blocks pair look gone blocks later at)
-with_rel_block pair look gone blocks later (Whole b) = blocks_left pair look gone (blocks ++ b ∷ []) later
+unfoldable pub with_rel_block : ℕ → ℕ → List GoneBy → List RelBlock → ℕ
+    → PartSoFar BlockState RelBlock → PartSoFar FirstState FirstStep
+with_rel_block pair look gone blocks later (More at) =
+    More (first_state.Blocks pair look gone blocks later at)
+with_rel_block pair look gone blocks later (Whole b) =
+    blocks_left pair look gone (blocks ++ b ∷ []) later
 
 unfoldable pub first_started : FirstHead → PartSoFar FirstState FirstStep
 first_started (first_head.Trim kept) = Whole (first.Trim kept)
@@ -109,7 +117,8 @@ first_started (first_head.Cut pair look) = More (first_state.Gone pair look)
 unfoldable pub step_first : ℕ → FirstState → Line → Said (PartSoFar FirstState FirstStep)
 step_first v (first_state.Head) line = map_said first_started (first_head_in line)
 step_first v (first_state.Classes) line =
-    map_said (λ classes. Whole (first.Merge classes)) (numbers_in keyword.Classes tail.SomeNumbers line)
+    map_said (λ classes. Whole (first.Merge classes))
+    (numbers_in keyword.Classes tail.SomeNumbers line)
 step_first v (first_state.Gone pair look) line =
     map_said (λ gone. blocks_left pair look gone [] (blocks_due pair)) (gone_by_in line)
 step_first v (first_state.Blocks pair look gone blocks later at) line =
@@ -117,15 +126,19 @@ step_first v (first_state.Blocks pair look gone blocks later at) line =
 
 -- The first log.
 unfoldable pub first_left : List FirstStep → ℕ → PartSoFar FirstLog (List FirstStep)
-first_left steps n = on_or n (Whole steps) (λ later. More (first_log.Steps steps later first_state.Head))
+first_left steps n =
+    on_or n (Whole steps) (λ later. More (first_log.Steps steps later first_state.Head))
 
-unfoldable pub with_first : List FirstStep → ℕ → PartSoFar FirstState FirstStep → PartSoFar FirstLog (List FirstStep)
+unfoldable pub with_first : List FirstStep → ℕ → PartSoFar FirstState FirstStep
+    → PartSoFar FirstLog (List FirstStep)
 with_first steps later (More at) = More (first_log.Steps steps later at)
 with_first steps later (Whole step) = first_left (steps ++ step ∷ []) later
 
 unfoldable pub step_first_log : ℕ → FirstLog → Line → Said (PartSoFar FirstLog (List FirstStep))
-step_first_log v (first_log.Count) line = map_said (λ n. first_left [] n) (number_in keyword.Log1 line)
-step_first_log v (first_log.Steps steps later at) line = map_said (with_first steps later) (step_first v at line)
+step_first_log v (first_log.Count) line =
+    map_said (λ n. first_left [] n) (number_in keyword.Log1 line)
+step_first_log v (first_log.Steps steps later at) line =
+    map_said (with_first steps later) (step_first v at line)
 
 -- Steps of the second log.
 unfoldable pub rel_due : Way → List ℕ → SecondState
@@ -133,17 +146,21 @@ rel_due (way.Forward look) classes = second_state.Forward look classes block.Cou
 rel_due (way.Backward look) classes = second_state.Backward look classes block.Count
 rel_due (way.Delayed letters) classes = second_state.Delayed letters classes rank.Count
 
-unfoldable pub with_forward : ℕ → List ℕ → PartSoFar BlockState RelBlock → PartSoFar SecondState SecondStep
+unfoldable pub with_forward : ℕ → List ℕ → PartSoFar BlockState RelBlock
+    → PartSoFar SecondState SecondStep
 with_forward look classes (More at) = More (second_state.Forward look classes at)
 with_forward look classes (Whole rel) = Whole (second.Merge (grounds.Forward look rel) classes)
 
-unfoldable pub with_backward : ℕ → List ℕ → PartSoFar BlockState RelBlock → PartSoFar SecondState SecondStep
+unfoldable pub with_backward : ℕ → List ℕ → PartSoFar BlockState RelBlock
+    → PartSoFar SecondState SecondStep
 with_backward look classes (More at) = More (second_state.Backward look classes at)
 with_backward look classes (Whole rel) = Whole (second.Merge (grounds.Backward look rel) classes)
 
-unfoldable pub with_delayed : ℕ → List ℕ → PartSoFar RankState RankBlock → PartSoFar SecondState SecondStep
+unfoldable pub with_delayed : ℕ → List ℕ → PartSoFar RankState RankBlock
+    → PartSoFar SecondState SecondStep
 with_delayed letters classes (More at) = More (second_state.Delayed letters classes at)
-with_delayed letters classes (Whole ranks) = Whole (second.Merge (grounds.Delayed letters ranks) classes)
+with_delayed letters classes (Whole ranks) =
+    Whole (second.Merge (grounds.Delayed letters ranks) classes)
 
 unfoldable pub second_started : SecondHead → PartSoFar SecondState SecondStep
 second_started (second_head.Trim kept) = Whole (second.Trim kept)
@@ -153,42 +170,57 @@ second_started (second_head.Cut) = More second_state.Gone
 unfoldable pub step_second : ℕ → Mode → SecondState → Line → Said (PartSoFar SecondState SecondStep)
 step_second v m (second_state.Head) line = map_said second_started (second_head_in v m line)
 step_second v m (second_state.Classes by) line =
-    map_said (λ classes. More (rel_due by classes)) (numbers_in keyword.Classes tail.SomeNumbers line)
-step_second v m (second_state.Forward look classes at) line = map_said (with_forward look classes) (step_block v at line)
-step_second v m (second_state.Backward look classes at) line = map_said (with_backward look classes) (step_block v at line)
-step_second v m (second_state.Delayed letters classes at) line = map_said (with_delayed letters classes) (step_ranks letters at line)
+    map_said (λ classes. More (rel_due by classes))
+    (numbers_in keyword.Classes tail.SomeNumbers line)
+step_second v m (second_state.Forward look classes at) line =
+    map_said (with_forward look classes) (step_block v at line)
+step_second v m (second_state.Backward look classes at) line =
+    map_said (with_backward look classes) (step_block v at line)
+step_second v m (second_state.Delayed letters classes at) line =
+    map_said (with_delayed letters classes) (step_ranks letters at line)
 step_second v m (second_state.Gone) line =
     map_said (λ gone. Whole (second.Cut gone)) (ascending_in keyword.Gone tail.SomeNumbers line)
 
 -- The second log.
 unfoldable pub second_left : List SecondStep → ℕ → PartSoFar SecondLog (List SecondStep)
-second_left steps n = on_or n (Whole steps) (λ later. More (second_log.Steps steps later second_state.Head))
+second_left steps n =
+    on_or n (Whole steps) (λ later. More (second_log.Steps steps later second_state.Head))
 
-unfoldable pub with_second : List SecondStep → ℕ → PartSoFar SecondState SecondStep → PartSoFar SecondLog (List SecondStep)
+unfoldable pub with_second : List SecondStep → ℕ → PartSoFar SecondState SecondStep
+    → PartSoFar SecondLog (List SecondStep)
 with_second steps later (More at) = More (second_log.Steps steps later at)
 with_second steps later (Whole step) = second_left (steps ++ step ∷ []) later
 
-unfoldable pub step_second_log : ℕ → Mode → SecondLog → Line → Said (PartSoFar SecondLog (List SecondStep))
-step_second_log v m (second_log.Count) line = map_said (λ n. second_left [] n) (number_in keyword.Log2 line)
-step_second_log v m (second_log.Steps steps later at) line = map_said (with_second steps later) (step_second v m at line)
+unfoldable pub step_second_log : ℕ → Mode → SecondLog → Line
+    → Said (PartSoFar SecondLog (List SecondStep))
+step_second_log v m (second_log.Count) line =
+    map_said (λ n. second_left [] n) (number_in keyword.Log2 line)
+step_second_log v m (second_log.Steps steps later at) line =
+    map_said (with_second steps later) (step_second v m at line)
 
 -- The evidence of a yes.
 unfoldable pub elements_left : RelBlock → List Element → ℕ → PartSoFar YesState Closed
 elements_left order elements n =
-    on_or n (More (yes_state.Cover order elements)) (λ later. More (yes_state.Element order elements later))
+    on_or n
+    (More (yes_state.Cover order elements)) (λ later.
+    More (yes_state.Element order elements later))
 
 -- The first live element of these, the first of them having the number n.
 abbrev pub live_from : ℕ → List Element → Option ℕ
 live_from n [] = None
 live_from n (e ∷ es) = cond (is_live e.mark) (Some n) (live_from (n + 1) es)
 
-unfoldable pub step_or_whole : RelBlock → List Element → List ℕ → List StepLine → Option ℕ → PartSoFar YesState Closed
+unfoldable pub step_or_whole : RelBlock → List Element → List ℕ → List StepLine → Option ℕ
+    → PartSoFar YesState Closed
 step_or_whole order elements cover steps None =
     Whole (record { order = order; elements = elements; cover = cover; steps = steps })
-step_or_whole order elements cover steps (Some at) = More (yes_state.Step order elements cover steps at)
+step_or_whole order elements cover steps (Some at) =
+    More (yes_state.Step order elements cover steps at)
 
-unfoldable pub steps_left : RelBlock → List Element → List ℕ → List StepLine → ℕ → PartSoFar YesState Closed
-steps_left order elements cover steps n = step_or_whole order elements cover steps (live_from n (drop n elements))
+unfoldable pub steps_left : RelBlock → List Element → List ℕ → List StepLine → ℕ
+    → PartSoFar YesState Closed
+steps_left order elements cover steps n =
+    step_or_whole order elements cover steps (live_from n (drop n elements))
 
 unfoldable pub with_order : PartSoFar BlockState RelBlock → PartSoFar YesState Closed
 with_order (More at) = More (yes_state.Order at)
@@ -196,22 +228,29 @@ with_order (Whole order) = More (yes_state.Elements order)
 
 unfoldable pub step_yes : ℕ → Mode → YesState → Line → Said (PartSoFar YesState Closed)
 step_yes v m (yes_state.Order at) line = map_said with_order (step_block v at line)
-step_yes v m (yes_state.Elements order) line = map_said (λ n. elements_left order [] n) (number_in keyword.Elements line)
+step_yes v m (yes_state.Elements order) line =
+    map_said (λ n. elements_left order [] n) (number_in keyword.Elements line)
 step_yes v m (yes_state.Element order elements later) line =
     map_said (λ e. elements_left order (elements ++ e ∷ []) later) (element_in m line)
 step_yes v m (yes_state.Cover order elements) line =
-    map_said (λ cover. steps_left order elements cover [] 0) (numbers_in keyword.Cover tail.Numbers line)
+    map_said (λ cover. steps_left order elements cover [] 0)
+    (numbers_in keyword.Cover tail.Numbers line)
 step_yes v m (yes_state.Step order elements cover steps at) line =
-    map_said (λ step. steps_left order elements cover (steps ++ step ∷ []) (at + 1)) (step_in at line)
+    map_said (λ step. steps_left order elements cover (steps ++ step ∷ []) (at + 1))
+    (step_in at line)
 
 -- The evidence of a list.
 unfoldable pub origins_left : ℕ → List Origin → ℕ → PartSoFar ListState ListPart
 origins_left limit elements n =
-    on_or n (Whole (record { limit = limit; elements = elements })) (λ later. More (list_state.Origin limit elements later))
+    on_or n
+    (Whole (record { limit = limit; elements = elements })) (λ later.
+    More (list_state.Origin limit elements later))
 
 unfoldable pub step_list : Mode → ListState → Line → Said (PartSoFar ListState ListPart)
-step_list m (list_state.Limit) line = map_said (λ limit. More (list_state.Count limit)) (number_in keyword.Limit line)
-step_list m (list_state.Count limit) line = map_said (λ n. origins_left limit [] n) (number_in keyword.Elements line)
+step_list m (list_state.Limit) line =
+    map_said (λ limit. More (list_state.Count limit)) (number_in keyword.Limit line)
+step_list m (list_state.Count limit) line =
+    map_said (λ n. origins_left limit [] n) (number_in keyword.Elements line)
 step_list m (list_state.Origin limit elements later) line =
     map_said (λ from. origins_left limit (elements ++ from ∷ []) later) (origin_in m line)
 
@@ -222,7 +261,8 @@ step_no (no_state.Prefix) line =
 step_no (no_state.Turn prefix) line =
     map_said (λ turn. Whole (body.NoLasso (record { prefix = prefix; turn = turn })))
     (numbers_in keyword.Loop tail.SomeNumbers line)
-step_no (no_state.Word) line = map_said (λ word. Whole (body.NoWord word)) (numbers_in keyword.Word tail.Numbers line)
+step_no (no_state.Word) line =
+    map_said (λ word. Whole (body.NoWord word)) (numbers_in keyword.Word tail.Numbers line)
 
 -- The whole text.
 unfoldable pub whole : Opening → Body → State
@@ -230,12 +270,20 @@ whole o b = state.End (cert_of o.version o.mode o.sizes b)
 
 unfoldable pub begun : Heading → Sizes → State
 begun h sizes = elim h.form [
-  | form.Yes ↦ state.First (record { version = h.version; mode = h.mode; form = form.Yes; sizes = sizes }) first_log.Count
+  | form.Yes ↦ state.First
+      (record { version = h.version; mode = h.mode; form = form.Yes; sizes = sizes })
+      first_log.Count
   | form.No ↦ elim h.mode [
-    | mode.Buchi ↦ state.No (record { version = h.version; mode = mode.Buchi; form = form.No; sizes = sizes }) no_state.Prefix
-    | mode.Finite ↦ state.No (record { version = h.version; mode = mode.Finite; form = form.No; sizes = sizes }) no_state.Word
+    | mode.Buchi ↦ state.No
+        (record { version = h.version; mode = mode.Buchi; form = form.No; sizes = sizes })
+        no_state.Prefix
+    | mode.Finite ↦ state.No
+        (record { version = h.version; mode = mode.Finite; form = form.No; sizes = sizes })
+        no_state.Word
   ]
-  | form.List ↦ state.First (record { version = h.version; mode = h.mode; form = form.List; sizes = sizes }) first_log.Count
+  | form.List ↦ state.First
+      (record { version = h.version; mode = h.mode; form = form.List; sizes = sizes })
+      first_log.Count
 ]
 
 unfoldable pub with_no : Opening → PartSoFar NoState Body → State
@@ -254,15 +302,18 @@ evidence_due o firsts seconds = elim o.form [
   | form.List ↦ state.List o firsts seconds list_state.Limit
 ]
 
-unfoldable pub with_second_log : Opening → List FirstStep → PartSoFar SecondLog (List SecondStep) → State
+unfoldable pub with_second_log : Opening → List FirstStep → PartSoFar SecondLog (List SecondStep)
+    → State
 with_second_log o firsts (More at) = state.Second o firsts at
 with_second_log o firsts (Whole seconds) = evidence_due o firsts seconds
 
-unfoldable pub with_yes : Opening → List FirstStep → List SecondStep → PartSoFar YesState Closed → State
+unfoldable pub with_yes : Opening → List FirstStep → List SecondStep → PartSoFar YesState Closed
+    → State
 with_yes o firsts seconds (More at) = state.Yes o firsts seconds at
 with_yes o firsts seconds (Whole closed) = whole o (yes_of firsts seconds closed)
 
-unfoldable pub with_list : Opening → List FirstStep → List SecondStep → PartSoFar ListState ListPart → State
+unfoldable pub with_list : Opening → List FirstStep → List SecondStep → PartSoFar ListState ListPart
+    → State
 with_list o firsts seconds (More at) = state.List o firsts seconds at
 with_list o firsts seconds (Whole list_part) = whole o (list_of firsts seconds list_part)
 
@@ -272,9 +323,12 @@ step (state.Heading) line = map_said (λ h. state.Sizes h) (heading_in line)
 step (state.Sizes h) line = map_said (begun h) (sizes_in line)
 step (state.No o at) line = map_said (with_no o) (step_no at line)
 step (state.First o at) line = map_said (with_first_log o) (step_first_log o.version at line)
-step (state.Second o firsts at) line = map_said (with_second_log o firsts) (step_second_log o.version o.mode at line)
-step (state.Yes o firsts seconds at) line = map_said (with_yes o firsts seconds) (step_yes o.version o.mode at line)
-step (state.List o firsts seconds at) line = map_said (with_list o firsts seconds) (step_list o.mode at line)
+step (state.Second o firsts at) line =
+    map_said (with_second_log o firsts) (step_second_log o.version o.mode at line)
+step (state.Yes o firsts seconds at) line =
+    map_said (with_yes o firsts seconds) (step_yes o.version o.mode at line)
+step (state.List o firsts seconds at) line =
+    map_said (with_list o firsts seconds) (step_list o.mode at line)
 step (state.End c) line = map_said (λ u. state.Done c) (word_in keyword.End line)
 step (state.Done c) line = Err kind.Trailing
 

@@ -1,4 +1,5 @@
--- A certificate's text that comes in pieces: what a reader holds after those so far, whatever follows.
+-- A certificate's text that comes in pieces: what a reader holds after those so far, whatever
+-- follows.
 use Rattle.std.specs.Prelude.{◌≡◌, ℕ, ◌+◌, ◌≤◌, List, [], ◌∷◌, ◌++◌, length, Ok}
 use Rattle.cert_value.specs.Text.{Line}
 use Rattle.cert_text.specs.declared.faults.TextFault.{TextFault}
@@ -18,9 +19,11 @@ use Rattle.text_lines.specs.Cut.{IsUnfinished}
 -- The lines lead from one state to the other.
 abbrev pub LeadsByLines : State → List Line → State → Type 0
 LeadsByLines s [] t = s ≡ t
-LeadsByLines s (line ∷ lines) t = (next : State) × (step s line ≡ Ok next) × LeadsByLines next lines t
+LeadsByLines s (line ∷ lines) t =
+    (next : State) × (step s line ≡ Ok next) × LeadsByLines next lines t
 
--- The lines that were taken are those of the text before this rest, and lead to the state. What follows the rest has no part in that.
+-- The lines that were taken are those of the text before this rest, and lead to the state. What
+-- follows the rest has no part in that.
 pub record AreCertLinesTaken (lines : Lines) (text rest : List ℕ) : Type 0 where
   pub said : List Line
   pub leads : LeadsByLines state.Heading said lines.state
@@ -37,14 +40,15 @@ abbrev pub TellsFirstCertFault : List ℕ → CertReadFault → Type 0
 TellsFirstCertFault text (Text fault) = HasFirstCertFault text fault
 TellsFirstCertFault text Memory = Unit {0}
 
--- How far the reading of the bytes has come: their lines were taken but for the unfinished one; they have a first fault; or memory was refused.
+-- How far the reading of the bytes has come: their lines were taken but for the unfinished one;
+-- they have a first fault; or memory was refused.
 abbrev pub HasCertComeTo : Progress → Lines → List ℕ → List ℕ → Type 0
 HasCertComeTo Faultless lines line bytes = AreCertLinesTaken lines bytes line × IsUnfinished line
 HasCertComeTo (Faulty fault) lines line bytes = HasFirstCertFault bytes fault
 HasCertComeTo Refused lines line bytes = Unit {0}
 
--- The reader holds what is to be known of these bytes, fed in any pieces, to read them and what follows. Of one that was refused memory
--- nothing is to be known.
+-- The reader holds what is to be known of these bytes, fed in any pieces, to read them and what
+-- follows. Of one that was refused memory nothing is to be known.
 abbrev pub HasReadCert : CertReader → List ℕ → Type 0
 HasReadCert reader bytes = HasCertComeTo reader.progress reader.lines reader.line.items bytes
 

@@ -166,7 +166,9 @@ fn next_element(
     later: u32,
     line: &[u8],
 ) -> Result<PartSoFar<YesState, Closed>, LineFault>
-    ensures { Agrees (step_yes version mode (yes_state.Element order elements later) (tokens_of line.now)) result }
+    ensures { Agrees
+        (step_yes version mode (yes_state.Element order elements later) (tokens_of line.now))
+        result }
 {
     match element_in(mode, line) {
         Ok(element) => match pushed(elements, element) {

@@ -109,7 +109,9 @@ fn next_in_cut(
     at: BlockState,
     line: &[u8],
 ) -> Result<PartSoFar<FirstState, FirstStep>, LineFault>
-    ensures { Agrees (map_said (with_rel_block pair look gone blocks later) (step_block version at (tokens_of line.now))) result }
+    ensures { Agrees
+        (map_said (with_rel_block pair look gone blocks later)
+        (step_block version at (tokens_of line.now))) result }
 {
     match step_block(alloc, version, at, line) {
         Ok(PartSoFar::More(at)) => Ok(PartSoFar::More(FirstState::Blocks {
@@ -188,7 +190,8 @@ fn next_in_first(
     at: FirstState,
     line: &[u8],
 ) -> Result<PartSoFar<FirstLog, List<FirstStep>>, LineFault>
-    ensures { Agrees (map_said (with_first steps later) (step_first version at (tokens_of line.now))) result }
+    ensures { Agrees
+        (map_said (with_first steps later) (step_first version at (tokens_of line.now))) result }
 {
     match step_first(alloc, version, at, line) {
         Ok(PartSoFar::More(at)) => Ok(PartSoFar::More(FirstLog::Steps { steps, later, at })),

@@ -1,4 +1,5 @@
-//! The text of certificates, in both versions: the reader, which says their first fault, and the writer. The value is that of `cert_value`.
+//! The text of certificates, in both versions: the reader, which says their first fault, and the
+//! writer. The value is that of `cert_value`.
 #![tactic(auto)]
 
 mod blocks;

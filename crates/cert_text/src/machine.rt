@@ -107,7 +107,9 @@ fn next_first(
     at: FirstLog,
     line: &[u8],
 ) -> Result<State, LineFault>
-    ensures { Agrees (map_said (with_first_log opening) (step_first_log opening.version at (tokens_of line.now))) result }
+    ensures { Agrees
+        (map_said (with_first_log opening) (step_first_log opening.version at (tokens_of line.now)))
+        result }
 {
     match step_first_log(alloc, opening.version, at, line) {
         Ok(PartSoFar::More(at)) => Ok(State::First(opening, at)),
@@ -141,7 +143,9 @@ fn next_second(
     at: SecondLog,
     line: &[u8],
 ) -> Result<State, LineFault>
-    ensures { Agrees (map_said (with_second_log opening first) (step_second_log opening.version opening.mode at (tokens_of line.now))) result }
+    ensures { Agrees
+        (map_said (with_second_log opening first)
+        (step_second_log opening.version opening.mode at (tokens_of line.now))) result }
 {
     match step_second_log(alloc, opening.version, opening.mode, at, line) {
         Ok(PartSoFar::More(at)) => Ok(State::Second(opening, first, at)),
@@ -160,7 +164,9 @@ fn next_yes(
     at: YesState,
     line: &[u8],
 ) -> Result<State, LineFault>
-    ensures { Agrees (map_said (with_yes opening first second) (step_yes opening.version opening.mode at (tokens_of line.now))) result }
+    ensures { Agrees
+        (map_said (with_yes opening first second)
+        (step_yes opening.version opening.mode at (tokens_of line.now))) result }
 {
     match step_yes(alloc, opening.version, opening.mode, at, line) {
         Ok(PartSoFar::More(at)) => Ok(State::Yes(opening, first, second, at)),
@@ -193,7 +199,9 @@ fn next_list(
     at: ListState,
     line: &[u8],
 ) -> Result<State, LineFault>
-    ensures { Agrees (map_said (with_list opening first second) (step_list opening.mode at (tokens_of line.now))) result }
+    ensures { Agrees
+        (map_said (with_list opening first second) (step_list opening.mode at (tokens_of line.now)))
+        result }
 {
     match step_list(alloc, opening.mode, at, line) {
         Ok(PartSoFar::More(at)) => Ok(State::List(opening, first, second, at)),

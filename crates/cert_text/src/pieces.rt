@@ -49,7 +49,8 @@ impl Lines {
         }
     }
 
-    /// Takes the whole lines of what comes next in the text, and gives what stands after the last LF.
+    /// Takes the whole lines of what comes next in the text, and gives what stands after the last
+    /// LF.
     fn take_whole<'p>(&mut self, alloc: Global, piece: &'p [u8]) -> Result<&'p [u8], CertReadFault>
         ensures unfinished { IfOk result (λ rest. IsUnfinished rest.now) }
         ensures taken { (text : List ℕ)
@@ -67,7 +68,8 @@ impl Lines {
 
     /// What comes of the text that ends with this line.
     fn end(self, line: &[u8]) -> Result<Cert, CertReadFault>
-        ensures { (text : List ℕ) → AreCertLinesTaken self text line.now → IsUnfinished line.now → Told (reading text) result }
+        ensures { (text : List ℕ) → AreCertLinesTaken self text line.now → IsUnfinished line.now
+            → Told (reading text) result }
     {
         at_end(self.state, line, self.number)
     }
@@ -84,7 +86,8 @@ enum Progress {
     Refused,
 }
 
-/// A reader of a certificate's text that comes in pieces. It keeps what the whole lines so far said, and the unfinished line.
+/// A reader of a certificate's text that comes in pieces. It keeps what the whole lines so far
+/// said, and the unfinished line.
 #[derive(Drop)]
 pub struct CertReader {
     /// The allocator.
@@ -113,7 +116,8 @@ impl CertReader {
         })
     }
 
-    /// Takes the whole lines of the piece, and keeps what stands after the last LF. No line is unfinished.
+    /// Takes the whole lines of the piece, and keeps what stands after the last LF. No line is
+    /// unfinished.
     fn take_lines(&mut self, piece: &[u8]) -> Result<(), CertReadFault>
         ensures progress { self.new.progress ≡ self.old.progress }
         ensures taken { (text : List ℕ)
@@ -127,7 +131,8 @@ impl CertReader {
         Ok(())
     }
 
-    /// Takes the whole lines of the piece, the first after what stands of it already, and keeps what stands after the last LF.
+    /// Takes the whole lines of the piece, the first after what stands of it already, and keeps
+    /// what stands after the last LF.
     fn take(&mut self, piece: &[u8]) -> Result<(), CertReadFault>
         ensures progress { self.new.progress ≡ self.old.progress }
         ensures taken { (text : List ℕ)
@@ -149,12 +154,14 @@ impl CertReader {
         self.take_lines(rest)
     }
 
-    /// Takes the next piece of the text. After a first fault it only counts as read. Where memory is refused, now or before, the reader
-    /// answers want of memory from then on.
+    /// Takes the next piece of the text. After a first fault it only counts as read. Where memory
+    /// is refused, now or before, the reader answers want of memory from then on.
     pub fn feed(&mut self, piece: &[u8]) -> Result<(), Memory>
-        ensures read { (bytes : List ℕ) → HasReadCert self.old bytes → length bytes + length piece.now ≤ 2 ^ 30 → HasReadCert self.new (bytes ++ piece.now) }
+        ensures read { (bytes : List ℕ) → HasReadCert self.old bytes
+            → length bytes + length piece.now ≤ 2 ^ 30 → HasReadCert self.new (bytes ++ piece.now) }
         ensures refused { OnErr result (CertReaderLacksMemory self.new) }
-        ensures not_refused { OnOk result (CertReaderLacksMemory self.new → CertReaderLacksMemory self.old) }
+        ensures not_refused { OnOk result
+            (CertReaderLacksMemory self.new → CertReaderLacksMemory self.old) }
         ensures stays_refused { CertReaderLacksMemory self.old → IsErr result }
     {
         match self.progress {
@@ -195,12 +202,14 @@ impl CertReader {
 
     /// The certificate whose text the pieces are, or the first fault of their text.
     pub fn finish(self) -> Result<Cert, CertReadFault>
-        ensures found { (bytes : List ℕ) → HasReadCert self bytes → IfOk result (λ c. WellFormed c × (bytes ≡ text_of c)) }
+        ensures found { (bytes : List ℕ) → HasReadCert self bytes
+            → IfOk result (λ c. WellFormed c × (bytes ≡ text_of c)) }
         ensures only { (bytes : List ℕ) → HasReadCert self bytes → (c : ACert)
             → WellFormed c
             → bytes ≡ text_of c
             → (result ≡ Ok c) ⊎ (result ≡ Err fault.Memory) }
-        ensures fault { (bytes : List ℕ) → HasReadCert self bytes → (f : AFault) → result ≡ Err (fault.Text f) → FirstFault bytes f }
+        ensures fault { (bytes : List ℕ) → HasReadCert self bytes → (f : AFault)
+            → result ≡ Err (fault.Text f) → FirstFault bytes f }
         ensures first { (bytes : List ℕ) → HasReadCert self bytes → (f : AFault)
             → FirstFault bytes f
             → (result ≡ Err (fault.Text f)) ⊎ (result ≡ Err fault.Memory) }

@@ -26,7 +26,8 @@ pub fn first_line(bytes: &[u8]) -> Option<(&[u8], &[u8])>
     ensures cut { MatchOption result
         (lines_of bytes.now ≡ tokens_of bytes.now ∷ [])
         (λ cut. lines_of bytes.now ≡ tokens_of cut.0.now ∷ lines_of cut.1.now) }
-    ensures ends { MatchOption result (IsUnfinished bytes.now) (λ cut. IsLineCut bytes.now cut.0.now cut.1.now) }
+    ensures ends { MatchOption result
+        (IsUnfinished bytes.now) (λ cut. IsLineCut bytes.now cut.0.now cut.1.now) }
     ensures shorter { IfSome result (λ cut. length cut.1.now < length bytes.now) }
 {
     split_line(bytes)

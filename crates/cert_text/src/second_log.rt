@@ -114,7 +114,8 @@ fn next_in_forward(
     at: BlockState,
     line: &[u8],
 ) -> Result<PartSoFar<SecondState, SecondStep>, LineFault>
-    ensures { Agrees (map_said (with_forward look classes) (step_block version at (tokens_of line.now))) result }
+    ensures { Agrees
+        (map_said (with_forward look classes) (step_block version at (tokens_of line.now))) result }
 {
     match step_block(alloc, version, at, line) {
         Ok(PartSoFar::More(at)) => Ok(PartSoFar::More(SecondState::Forward { look, classes, at })),
@@ -136,7 +137,9 @@ fn next_in_backward(
     at: BlockState,
     line: &[u8],
 ) -> Result<PartSoFar<SecondState, SecondStep>, LineFault>
-    ensures { Agrees (map_said (with_backward look classes) (step_block version at (tokens_of line.now))) result }
+    ensures { Agrees
+        (map_said (with_backward look classes) (step_block version at (tokens_of line.now)))
+        result }
 {
     match step_block(alloc, version, at, line) {
         Ok(PartSoFar::More(at)) => Ok(PartSoFar::More(SecondState::Backward { look, classes, at })),
@@ -157,7 +160,9 @@ fn next_in_delayed(
     at: RankState,
     line: &[u8],
 ) -> Result<PartSoFar<SecondState, SecondStep>, LineFault>
-    ensures { Agrees (map_said (with_delayed letters classes) (step_ranks letters at (tokens_of line.now))) result }
+    ensures { Agrees
+        (map_said (with_delayed letters classes) (step_ranks letters at (tokens_of line.now)))
+        result }
 {
     match step_ranks(alloc, letters, at, line) {
         Ok(PartSoFar::More(at)) => Ok(PartSoFar::More(SecondState::Delayed {
@@ -243,7 +248,9 @@ fn next_in_second(
     at: SecondState,
     line: &[u8],
 ) -> Result<PartSoFar<SecondLog, List<SecondStep>>, LineFault>
-    ensures { Agrees (map_said (with_second steps later) (step_second version mode at (tokens_of line.now))) result }
+    ensures { Agrees
+        (map_said (with_second steps later) (step_second version mode at (tokens_of line.now)))
+        result }
 {
     match step_second(alloc, version, mode, at, line) {
         Ok(PartSoFar::More(at)) => Ok(PartSoFar::More(SecondLog::Steps { steps, later, at })),

@@ -39,7 +39,8 @@ fn print_elements(
     steps: &[StepLine],
     version: u32,
 ) -> Result<(), Memory>
-    ensures { OnOk result (out.new ≡ out.old ++ text_of (closed_lines elements.now cover.now steps.now)) }
+    ensures { OnOk result
+        (out.new ≡ out.old ++ text_of (closed_lines elements.now cover.now steps.now)) }
 {
     print_count(out, Keyword::Elements, elements.len())?;
     print_all(out, elements, version)?;

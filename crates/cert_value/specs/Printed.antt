@@ -31,7 +31,8 @@ ranked_text pair = pair_text pair.right pair.code
 
 -- A run, with a space before each number.
 abbrev pub run_text : ℕ → Run → List ℕ
-run_text v run = if v == 2 then pair_text run.first run.last else joined number_text (run_numbers run)
+run_text v run =
+    if v == 2 then pair_text run.first run.last else joined number_text (run_numbers run)
 
 -- A mark, with a space after it.
 abbrev pub mark_text : Mark → List ℕ

@@ -127,20 +127,23 @@ row_lines v row = (spelled keyword.Row ∷ decimal row.left ∷ numbers (row_num
 
 -- A relation.
 abbrev pub block_lines : ℕ → RelBlock → List Line
-block_lines v block = (spelled keyword.Rel ∷ decimal (length block.rows) ∷ []) ∷ each (row_lines v) block.rows
+block_lines v block =
+    (spelled keyword.Rel ∷ decimal (length block.rows) ∷ []) ∷ each (row_lines v) block.rows
 
 -- The right numbers with their codes.
 abbrev pub ranked_numbers : List Ranked → List ℕ
 ranked_numbers pairs = in_pairs (λ pair. pair.right) (λ pair. pair.code) pairs
 
--- A row of a relation with ranks: its left number, its word, and the right numbers with their codes.
+-- A row of a relation with ranks: its left number, its word, and the right numbers with their
+-- codes.
 abbrev pub rank_row_lines : RankRow → List Line
 rank_row_lines row =
     (spelled keyword.Row ∷ decimal row.left ∷ numbers (row.ahead ++ ranked_numbers row.rights)) ∷ []
 
 -- A relation with ranks.
 abbrev pub rank_block_lines : RankBlock → List Line
-rank_block_lines block = (spelled keyword.Rel ∷ decimal (length block.rows) ∷ []) ∷ each rank_row_lines block.rows
+rank_block_lines block =
+    (spelled keyword.Rel ∷ decimal (length block.rows) ∷ []) ∷ each rank_row_lines block.rows
 
 -- What goes, each with the better one.
 abbrev pub gone_numbers : List GoneBy → List ℕ
@@ -166,9 +169,11 @@ letters_tokens v letters = if v == 2 then decimal letters ∷ [] else []
 -- A merge of the second log.
 abbrev pub merge_lines : ℕ → Grounds → List ℕ → List Line
 merge_lines v (grounds.Forward look rel) classes =
-    (spelled keyword.Merge ∷ spelled keyword.Forward ∷ decimal look ∷ []) ∷ classes_line classes ∷ block_lines v rel
+    (spelled keyword.Merge ∷ spelled keyword.Forward ∷ decimal look ∷ []) ∷ classes_line classes
+    ∷ block_lines v rel
 merge_lines v (grounds.Backward look rel) classes =
-    (spelled keyword.Merge ∷ spelled keyword.Backward ∷ decimal look ∷ []) ∷ classes_line classes ∷ block_lines v rel
+    (spelled keyword.Merge ∷ spelled keyword.Backward ∷ decimal look ∷ []) ∷ classes_line classes
+    ∷ block_lines v rel
 merge_lines v (grounds.Delayed letters ranks) classes =
     (spelled keyword.Merge ∷ spelled keyword.Delayed ∷ letters_tokens v letters)
     ∷ classes_line classes
@@ -178,7 +183,8 @@ merge_lines v (grounds.Delayed letters ranks) classes =
 abbrev pub second_step_lines : ℕ → SecondStep → List Line
 second_step_lines v (second.Trim kept) = (spelled keyword.Trim ∷ numbers kept) ∷ []
 second_step_lines v (second.Merge by classes) = merge_lines v by classes
-second_step_lines v (second.Cut gone) = (spelled keyword.Cut ∷ []) ∷ (spelled keyword.Gone ∷ numbers gone) ∷ []
+second_step_lines v (second.Cut gone) =
+    (spelled keyword.Cut ∷ []) ∷ (spelled keyword.Gone ∷ numbers gone) ∷ []
 
 -- Where an element comes from.
 abbrev pub origin_line : Origin → Line
@@ -205,11 +211,13 @@ step_lines step = (spelled keyword.Step ∷ decimal step.element ∷ numbers ste
 
 -- The first log.
 abbrev pub first_lines : ℕ → List FirstStep → List Line
-first_lines v steps = (spelled keyword.Log1 ∷ decimal (length steps) ∷ []) ∷ each (first_step_lines v) steps
+first_lines v steps =
+    (spelled keyword.Log1 ∷ decimal (length steps) ∷ []) ∷ each (first_step_lines v) steps
 
 -- The second log.
 abbrev pub second_lines : ℕ → List SecondStep → List Line
-second_lines v steps = (spelled keyword.Log2 ∷ decimal (length steps) ∷ []) ∷ each (second_step_lines v) steps
+second_lines v steps =
+    (spelled keyword.Log2 ∷ decimal (length steps) ∷ []) ∷ each (second_step_lines v) steps
 
 -- How many elements there are.
 abbrev pub elements_line : ℕ → Line
@@ -219,28 +227,33 @@ elements_line n = spelled keyword.Elements ∷ decimal n ∷ []
 abbrev pub closed_lines : List Element → List ℕ → List StepLine → List Line
 closed_lines elements cover steps =
     elements_line (length elements)
-    ∷ (each element_lines elements ++ ((spelled keyword.Cover ∷ numbers cover) ∷ each step_lines steps))
+    ∷ (each element_lines elements
+    ++ ((spelled keyword.Cover ∷ numbers cover) ∷ each step_lines steps))
 
 -- The evidence of inclusion.
 abbrev pub yes_lines : ℕ → YesBody → List Line
 yes_lines v y =
     first_lines v y.first
-    ++ (second_lines v y.second ++ (block_lines v y.order ++ closed_lines y.elements y.cover y.steps))
+    ++ (second_lines v y.second
+    ++ (block_lines v y.order ++ closed_lines y.elements y.cover y.steps))
 
 -- The limit, and the elements of a list.
 abbrev pub limit_lines : ℕ → List Origin → List Line
 limit_lines limit elements =
-    (spelled keyword.Limit ∷ decimal limit ∷ []) ∷ elements_line (length elements) ∷ each origin_lines elements
+    (spelled keyword.Limit ∷ decimal limit ∷ []) ∷ elements_line (length elements)
+    ∷ each origin_lines elements
 
 -- The evidence that a limit was met.
 abbrev pub list_lines : ℕ → ListBody → List Line
-list_lines v list = first_lines v list.first ++ (second_lines v list.second ++ limit_lines list.limit list.elements)
+list_lines v list =
+    first_lines v list.first ++ (second_lines v list.second ++ limit_lines list.limit list.elements)
 
 -- What stands between the line of sizes and the last line.
 abbrev pub body_lines : ℕ → Body → List Line
 body_lines v (body.Yes y) = yes_lines v y
 body_lines v (body.NoLasso lasso) =
-    (spelled keyword.Prefix ∷ numbers lasso.prefix) ∷ (spelled keyword.Loop ∷ numbers lasso.turn) ∷ []
+    (spelled keyword.Prefix ∷ numbers lasso.prefix) ∷ (spelled keyword.Loop ∷ numbers lasso.turn)
+    ∷ []
 body_lines v (body.NoWord word) = (spelled keyword.Word ∷ numbers word) ∷ []
 body_lines v (body.Listing list) = list_lines v list
 
@@ -269,9 +282,11 @@ version_word v = if v == 2 then keyword.Two else keyword.One
 -- The first line.
 abbrev pub first_line : ℕ → Mode → Form → Line
 first_line v m f =
-    spelled keyword.RabitCert ∷ spelled (version_word v) ∷ spelled (mode_word m) ∷ spelled (form_word f) ∷ []
+    spelled keyword.RabitCert ∷ spelled (version_word v) ∷ spelled (mode_word m)
+    ∷ spelled (form_word f) ∷ []
 
--- The line of sizes: the states of the read first automaton, of the read second one, and the joined labels.
+-- The line of sizes: the states of the read first automaton, of the read second one, and the joined
+-- labels.
 abbrev pub sizes_line : ℕ → ℕ → ℕ → Line
 sizes_line firsts seconds labels =
     spelled keyword.Sizes ∷ decimal firsts ∷ decimal seconds ∷ decimal labels ∷ []

@@ -57,7 +57,8 @@ ascend ns = ascend_from 0 ns
 abbrev pub is_run : Run → Bool
 is_run run = is_short run.first && is_short run.last
 
--- No run ends before it begins, the first does not begin below the bound, and each later one leaves out a number at least.
+-- No run ends before it begins, the first does not begin below the bound, and each later one leaves
+-- out a number at least.
 abbrev pub runs_ascend_from : ℕ → List Run → Bool
 runs_ascend_from bound [] = true
 runs_ascend_from bound (run ∷ runs) =
@@ -71,7 +72,8 @@ runs_ascend runs = runs_ascend_from 0 runs
 abbrev pub is_row : ℕ → Row → Bool
 is_row bound row =
     is_short row.left
-    && (list_all is_run row.runs && (has_some row.runs && (runs_ascend row.runs && nat_le bound row.left)))
+    && (list_all is_run row.runs
+    && (has_some row.runs && (runs_ascend row.runs && nat_le bound row.left)))
 
 -- Rows whose left numbers ascend from the bound.
 abbrev pub are_rows : ℕ → List Row → Bool
@@ -103,7 +105,8 @@ key_before (Some row) = rank_key row
 abbrev pub is_less : List ℕ → List ℕ → Bool
 is_less ns ms = is_lt (slice_cmp nat_cmp ns ms)
 
--- A row of a relation with ranks for so many announced letters, with its left number and word past the key.
+-- A row of a relation with ranks for so many announced letters, with its left number and word past
+-- the key.
 abbrev pub is_rank_row : ℕ → List ℕ → RankRow → Bool
 is_rank_row letters key row =
     is_short row.left
@@ -114,7 +117,8 @@ is_rank_row letters key row =
 -- Such rows, whose left numbers and words ascend in lexicographic order past the key.
 abbrev pub are_rank_rows : ℕ → List ℕ → List RankRow → Bool
 are_rank_rows letters key [] = true
-are_rank_rows letters key (row ∷ rows) = is_rank_row letters key row && are_rank_rows letters (rank_key row) rows
+are_rank_rows letters key (row ∷ rows) =
+    is_rank_row letters key row && are_rank_rows letters (rank_key row) rows
 
 -- A relation with ranks for so many announced letters.
 abbrev pub is_rank_block : ℕ → RankBlock → Bool
@@ -143,13 +147,16 @@ are_classes classes = are_short classes && has_some classes
 
 -- How many relations the cut by this pair has; no pair has none.
 abbrev pub blocks_due : ℕ → ℕ
-blocks_due pair = if pair == 1 then 1 else (if pair == 2 then 1 else (if pair == 3 then 2 else (if pair == 4 then 2 else 0)))
+blocks_due pair =
+    if pair == 1 then 1
+    else (if pair == 2 then 1 else (if pair == 3 then 2 else (if pair == 4 then 2 else 0)))
 
 -- A cut of the first log: by one of the four pairs, with the relations of that pair.
 abbrev pub is_cut : ℕ → ℕ → List GoneBy → List RelBlock → Bool
 is_cut pair look gone blocks =
     nat_lt 0 (blocks_due pair)
-    && (is_short look && (are_gone gone && ((length blocks == blocks_due pair) && list_all is_block blocks)))
+    && (is_short look
+    && (are_gone gone && ((length blocks == blocks_due pair) && list_all is_block blocks)))
 
 -- A step of the first log.
 abbrev pub is_first_step : FirstStep → Bool
@@ -165,7 +172,8 @@ are_letters v letters = if v == 2 then nat_le 1 letters && nat_le letters 4 else
 abbrev pub are_grounds : ℕ → Mode → Grounds → Bool
 are_grounds v m (grounds.Forward look rel) = is_short look && is_block rel
 are_grounds v m (grounds.Backward look rel) = is_short look && is_block rel
-are_grounds v (mode.Buchi) (grounds.Delayed letters ranks) = are_letters v letters && is_rank_block letters ranks
+are_grounds v (mode.Buchi) (grounds.Delayed letters ranks) =
+    are_letters v letters && is_rank_block letters ranks
 are_grounds v (mode.Finite) (grounds.Delayed letters ranks) = false
 
 -- A step of the second log.
@@ -174,7 +182,8 @@ is_second_step v m (second.Trim kept) = are_kept kept
 is_second_step v m (second.Merge by classes) = are_classes classes && are_grounds v m by
 is_second_step v m (second.Cut gone) = are_short gone && (has_some gone && ascend gone)
 
--- Where an element comes from: from a transition in a Büchi file, from the start in a finite one, and in both from an element.
+-- Where an element comes from: from a transition in a Büchi file, from the start in a finite one,
+-- and in both from an element.
 abbrev pub is_origin : Mode → Origin → Bool
 is_origin (mode.Buchi) (origin.Start) = false
 is_origin (mode.Finite) (origin.Start) = true
@@ -206,13 +215,15 @@ are_steps n [] [] = true
 are_steps n [] (step ∷ steps) = false
 are_steps n (e ∷ es) [] = if is_live e.mark then false else are_steps (n + 1) es []
 are_steps n (e ∷ es) (step ∷ steps) =
-    if is_live e.mark then is_step_of n step && are_steps (n + 1) es steps else are_steps (n + 1) es (step ∷ steps)
+    if is_live e.mark then is_step_of n step && are_steps (n + 1) es steps
+    else are_steps (n + 1) es (step ∷ steps)
 
 -- The two logs.
 abbrev pub are_logs : ℕ → Mode → List FirstStep → List SecondStep → Bool
 are_logs v m firsts seconds =
     is_short (length firsts)
-    && (list_all is_first_step firsts && (is_short (length seconds) && list_all (is_second_step v m) seconds))
+    && (list_all is_first_step firsts
+    && (is_short (length seconds) && list_all (is_second_step v m) seconds))
 
 -- The evidence of inclusion.
 abbrev pub is_yes : ℕ → Mode → YesBody → Bool
@@ -220,7 +231,8 @@ is_yes v m y =
     are_logs v m y.first y.second
     && (is_block y.order
     && (is_short (length y.elements)
-    && (list_all (is_element m) y.elements && (are_short y.cover && are_steps 0 y.elements y.steps))))
+    && (list_all (is_element m) y.elements
+    && (are_short y.cover && are_steps 0 y.elements y.steps))))
 
 -- A lasso, whose loop is not empty.
 abbrev pub is_lasso : Lasso → Bool
@@ -230,7 +242,8 @@ is_lasso lasso = are_short lasso.prefix && (are_short lasso.turn && has_some las
 abbrev pub is_listing : ℕ → Mode → ListBody → Bool
 is_listing v m list =
     are_logs v m list.first list.second
-    && (is_short list.limit && (is_short (length list.elements) && list_all (is_origin m) list.elements))
+    && (is_short list.limit
+    && (is_short (length list.elements) && list_all (is_origin m) list.elements))
 
 -- The body fits the mode, and its parts have a text.
 abbrev pub is_body : ℕ → Mode → Body → Bool
@@ -252,9 +265,10 @@ has_text c =
     && (is_short c.first_states
     && (is_short c.second_states && (is_short c.labels && is_body c.version c.mode c.body)))
 
--- The certificate has a text: its version is 1 or 2, every list is of the stated kind, order and least length, the body fits the
--- mode, every number and every written count has at most nine digits, a cut has the relations of its pair, a delayed merge
--- announces 1 to 4 letters (in version 1 one), and there is one step line for each live element, in order.
+-- The certificate has a text: its version is 1 or 2, every list is of the stated kind, order and
+-- least length, the body fits the mode, every number and every written count has at most nine
+-- digits, a cut has the relations of its pair, a delayed merge announces 1 to 4 letters (in version
+-- 1 one), and there is one step line for each live element, in order.
 abbrev pub WellFormed : Cert → Type 0
 WellFormed c = IsTrue (has_text c)
 

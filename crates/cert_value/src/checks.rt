@@ -200,7 +200,8 @@ fn is_ahead(letters: u32, ahead: &[u32]) -> bool
     are_short(ahead) && ahead.len() == letters.saturating_sub(1) as usize
 }
 
-/// Whether the row with ranks is one for so many announced letters, its left number and word past those of the row before, if there is one.
+/// Whether the row with ranks is one for so many announced letters, its left number and word past
+/// those of the row before, if there is one.
 fn is_rank_row(letters: u32, before: Option<&RankRow>, row: &RankRow) -> bool
     ensures { result ≡ is_rank_row letters (key_before (option_copied before.entry)) row.now }
 {

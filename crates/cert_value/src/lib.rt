@@ -1,4 +1,5 @@
-//! Certificates: the value, which values have a text, and how the lines of a text are spelled and written, in both versions.
+//! Certificates: the value, which values have a text, and how the lines of a text are spelled and
+//! written, in both versions.
 #![tactic(auto)]
 
 mod checks;

@@ -150,7 +150,8 @@ impl Print for RelBlock {
 
 /// Writes the rows of a relation with ranks, with their number before them.
 fn print_ranks(out: &mut List<u8>, rows: &[RankRow], version: u32) -> Result<(), Memory>
-    ensures { OnOk result (out.new ≡ out.old ++ text_of (rank_block_lines (record { rows = rows.now }))) }
+    ensures { OnOk result
+        (out.new ≡ out.old ++ text_of (rank_block_lines (record { rows = rows.now }))) }
 {
     print_count(out, Keyword::Rel, rows.len())?;
     print_all(out, rows, version)?;
@@ -210,7 +211,8 @@ impl Print for Element {
 
 /// Writes what goes, each with the better one.
 fn print_gone(out: &mut List<u8>, gone: &[GoneBy], version: u32) -> Result<(), Memory>
-    ensures { OnOk result (out.new ≡ out.old ++ line_text (spelled keyword.Gone ∷ numbers (gone_numbers gone.now))) }
+    ensures { OnOk result
+        (out.new ≡ out.old ++ line_text (spelled keyword.Gone ∷ numbers (gone_numbers gone.now))) }
 {
     print_keyword(out, Keyword::Gone)?;
     print_all(out, gone, version)?;

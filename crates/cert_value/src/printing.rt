@@ -71,7 +71,8 @@ pub fn print_line(
     heads: &[u32],
     tail: &[u32],
 ) -> Result<(), Memory>
-    ensures { OnOk result (out.new ≡ out.old ++ line_text (spelled keyword ∷ numbers (heads.now ++ tail.now))) }
+    ensures { OnOk result
+        (out.new ≡ out.old ++ line_text (spelled keyword ∷ numbers (heads.now ++ tail.now))) }
 {
     print_keyword(out, keyword)?;
     print_numbers(out, heads)?;

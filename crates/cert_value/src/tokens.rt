@@ -37,7 +37,8 @@ impl<'a> Tokens<'a> {
 
     /// The next token.
     pub fn next(&mut self) -> Option<&'a [u8]>
-        ensures token { MatchOption result (self.old ≡ []) (λ token. self.old ≡ token.now ∷ self.new) }
+        ensures token { MatchOption result
+            (self.old ≡ []) (λ token. self.old ≡ token.now ∷ self.new) }
         ensures rest { self.new ≡ drop 1 self.old }
     {
         let line = self.rest?;

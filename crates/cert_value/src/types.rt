@@ -231,6 +231,7 @@ pub enum Mark {
 pub struct StepLine {
     /// The live element.
     pub element: u32,
-    /// For each transition out of the state that it leads to, a live element that subsumes the extension.
+    /// For each transition out of the state that it leads to, a live element that subsumes the
+    /// extension.
     pub by: List<u32>,
 }

@@ -6,13 +6,15 @@ use Rattle.auto_core.specs.declared.parts.Mode.{Mode}
 use Rattle.auto_core.specs.Game.{Holds, IsGreatestAcross}
 use Rattle.cross_sim.specs.Sides.{Raises, Lowers}
 
--- The pairs are those of the greatest list that is stable across A and B, with B's states numbered after A's.
+-- The pairs are those of the greatest list that is stable across A and B, with B's states numbered
+-- after A's.
 pub record IsGreatestSideBySide (A B : Automaton) (k : ℕ) (R : List (ℕ × ℕ)) : Type 0 where
   pub across : List (ℕ × ℕ)
   pub is_greatest : IsGreatestAcross A B k across
   pub pairs : Raises A.states across R
 
--- Among the pairs those that lead into B's states, numbered after A's, are those of the greatest list that is stable across A and B.
+-- Among the pairs those that lead into B's states, numbered after A's, are those of the greatest
+-- list that is stable across A and B.
 pub record HoldsGreatestAcross (A B : Automaton) (k : ℕ) (R : List (ℕ × ℕ)) : Type 0 where
   pub across : List (ℕ × ℕ)
   pub is_greatest : IsGreatestAcross A B k across
@@ -20,5 +22,7 @@ pub record HoldsGreatestAcross (A B : Automaton) (k : ℕ) (R : List (ℕ × ℕ
 
 -- If it holds the pair of the initial states, B accepts what A accepts.
 abbrev pub CrossIncludes : Type 0
-CrossIncludes = (A B : Automaton) (k : ℕ) (R : List (ℕ × ℕ)) → IsAutomaton B → 1 ≤ k → IsGreatestSideBySide A B k R → Holds R A.initial (A.states + B.initial) →
+CrossIncludes =
+    (A B : Automaton) (k : ℕ) (R : List (ℕ × ℕ)) → IsAutomaton B → 1 ≤ k
+    → IsGreatestSideBySide A B k R → Holds R A.initial (A.states + B.initial) →
     (mode : Mode) → Includes A B mode

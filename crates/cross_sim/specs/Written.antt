@@ -6,8 +6,8 @@ use Rattle.cross_text.specs.declared.types.Cross.{Cross}
 use Rattle.cross_text.specs.Text.{CrossFormed}
 use Rattle.cross_sim.specs.Rules.{HasCrossSizes, pairs_across, KeepsCrossRules}
 
--- The cross relation that is written: it has a text, the sizes of the two automata and this lookahead, and its pairs are the greatest that
--- are stable across.
+-- The cross relation that is written: it has a text, the sizes of the two automata and this
+-- lookahead, and its pairs are the greatest that are stable across.
 pub record IsCrossOfGreatest (pair : Joined) (look : ℕ) (cross : Cross) : Type 0 where
   pub formed : CrossFormed cross
   pub sizes : HasCrossSizes pair cross
@@ -16,7 +16,9 @@ pub record IsCrossOfGreatest (pair : Joined) (look : ℕ) (cross : Cross) : Type
 
 -- There is one at most.
 abbrev pub CrossIsOne : Type 0
-CrossIsOne = (pair : Joined) (look : ℕ) (c d : Cross) → IsCrossOfGreatest pair look c → IsCrossOfGreatest pair look d → c ≡ d
+CrossIsOne =
+    (pair : Joined) (look : ℕ) (c d : Cross) → IsCrossOfGreatest pair look c
+    → IsCrossOfGreatest pair look d → c ≡ d
 
 -- If it holds the pair of the initial states, it breaks no rule.
 abbrev pub GreatestCrossKeepsRules : Type 0

@@ -9,9 +9,10 @@ ghost use Rattle.cross_sim.specs.Sides.{MatchesAcross, across_joins};
 use auto_core::{Auto, Trans};
 use look_round::{Forward, Move, Side};
 
-/// The side where Spoiler moves in the first automaton: moves go from source to target, states of the first alone are matched by any, and an
-/// accepting state asks for an accepting one. Where Duplicator begins in the second automaton he stays there. States of the first match each
-/// other too: so the short words of one tell which states of the second can be above it.
+/// The side where Spoiler moves in the first automaton: moves go from source to target, states of
+/// the first alone are matched by any, and an accepting state asks for an accepting one. Where
+/// Duplicator begins in the second automaton he stays there. States of the first match each other
+/// too: so the short words of one tell which states of the second can be above it.
 #[derive(Clone, Copy, Debug)]
 pub struct Across {
     /// The number of the first automaton's states; the second's follow them.

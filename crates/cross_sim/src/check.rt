@@ -66,7 +66,8 @@ fn relation_across(alloc: Global, firsts: u32, seconds: u32, rows: &[Row]) -> Re
     requires below { AreRowsInRange firsts seconds rows.now }
     requires few { firsts + seconds < 2 ^ 32 }
     ensures size { IfOk result (λ r. r.size ≡ firsts + seconds) }
-    ensures pairs { IfOk result (λ r. Raises firsts (pairs_of (record { rows = rows.now })) r.pairs) }
+    ensures pairs { IfOk
+        result (λ r. Raises firsts (pairs_of (record { rows = rows.now })) r.pairs) }
 {
     let block = raised_block(alloc, rows, firsts)?;
     relation_of(alloc, firsts + seconds, &block)
@@ -78,13 +79,15 @@ fn refused(rule: u32, item: u32) -> Result<(), CheckCrossFault>
     Err(CheckCrossFault::Refused(CrossRefusal { rule, item }))
 }
 
-/// Tests the pairs: that of the initial states is there, and all of them match and have their rounds.
+/// Tests the pairs: that of the initial states is there, and all of them match and have their
+/// rounds.
 fn check_pairs(alloc: Global, pair: &Joined, cross: &Cross) -> Result<(), CheckCrossFault>
     requires formed { CrossFormed cross.now }
     requires sizes { HasCrossSizes pair.now cross.now }
     requires look { IsLook cross.now.look }
     requires below { AreRowsInRange pair.now.first.states pair.now.second.states cross.now.rows }
-    requires transitions { length pair.now.first.transitions + length pair.now.second.transitions < 2 ^ 32 }
+    requires transitions { length pair.now.first.transitions + length pair.now.second.transitions
+        < 2 ^ 32 }
     requires labels { pair.now.first.labels ≡ pair.now.second.labels }
     ensures { TellsCross (cross_pair_checks pair.now cross.now) result }
 {
@@ -103,16 +106,20 @@ fn check_pairs(alloc: Global, pair: &Joined, cross: &Cross) -> Result<(), CheckC
     Ok(())
 }
 
-/// Tests the cross relation, which is formed, by all its rules. Ok says that none is broken, and then the second automaton accepts what the
-/// first does; a refusal is the first rule that is broken. Both automata have as many labels as `pair.labels` has texts.
+/// Tests the cross relation, which is formed, by all its rules. Ok says that none is broken, and
+/// then the second automaton accepts what the first does; a refusal is the first rule that is
+/// broken. Both automata have as many labels as `pair.labels` has texts.
 pub fn check_cross(alloc: Global, pair: &Joined, cross: &Cross) -> Result<(), CheckCrossFault>
     requires formed { CrossFormed cross.now }
-    requires transitions { length pair.now.first.transitions + length pair.now.second.transitions < 2 ^ 32 }
+    requires transitions { length pair.now.first.transitions + length pair.now.second.transitions
+        < 2 ^ 32 }
     requires first_labels { pair.now.first.labels ≡ length pair.now.labels }
     requires second_labels { pair.now.second.labels ≡ length pair.now.labels }
     ensures valid { IfOk result (λ _. KeepsCrossRules pair.now cross.now) }
-    ensures included { IfOk result (λ _. (mode : Mode) → Includes pair.now.first pair.now.second mode) }
-    ensures refused { (refusal : CrossRefusal) → result ≡ Err (CheckCrossFault.Refused refusal) → BreaksCrossRule pair.now cross.now refusal }
+    ensures included { IfOk
+        result (λ _. (mode : Mode) → Includes pair.now.first pair.now.second mode) }
+    ensures refused { (refusal : CrossRefusal) → result ≡ Err (CheckCrossFault.Refused refusal)
+        → BreaksCrossRule pair.now cross.now refusal }
 {
     if !has_sizes(pair, cross) {
         return refused(1, 0);

@@ -15,19 +15,23 @@ use cross_text::Cross;
 use look_game::greatest_with;
 use std::alloc::Global;
 
-/// The cross relation that is written at this lookahead, if it has the pair of the initial states, and None where it has not. The search
-/// ends once that pair is lost.
+/// The cross relation that is written at this lookahead, if it has the pair of the initial states,
+/// and None where it has not. The search ends once that pair is lost.
 pub fn find_cross(alloc: Global, pair: &Joined, look: u32) -> Result<Option<Cross>, Memory>
     requires first_few { pair.now.first.states ≤ 2048 }
     requires second_few { pair.now.second.states ≤ 512 }
-    requires transitions { length pair.now.first.transitions + length pair.now.second.transitions < 2 ^ 32 }
+    requires transitions { length pair.now.first.transitions + length pair.now.second.transitions
+        < 2 ^ 32 }
     requires labels { length pair.now.labels ≤ 512 }
     requires first_labels { pair.now.first.labels ≡ length pair.now.labels }
     requires second_labels { pair.now.second.labels ≡ length pair.now.labels }
     requires look_from { 1 ≤ look }
     requires look_upto { look ≤ 6 }
     ensures of { IfOk result (λ found. IfSome found (IsCrossOfGreatest pair.now look)) }
-    ensures has { IfOk result (λ found. IfSome found (λ cross. Holds (pairs_across cross) pair.now.first.initial pair.now.second.initial)) }
+    ensures has { IfOk
+        result (λ found.
+        IfSome found (λ cross.
+        Holds (pairs_across cross) pair.now.first.initial pair.now.second.initial)) }
     ensures lacks { IfOk result (λ found. found ≡ None → (cross : Cross)
         → IsCrossOfGreatest pair.now look cross
         → Holds (pairs_across cross) pair.now.first.initial pair.now.second.initial

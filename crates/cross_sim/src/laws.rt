@@ -4,7 +4,8 @@ ghost use Rattle.cross_sim.specs.Cross.{CrossIncludes};
 ghost use Rattle.cross_sim.specs.Rules.{KeptRulesInclude, NoCrossBreaksWhereKept, CrossBreakIsOne};
 ghost use Rattle.cross_sim.specs.Written.{CrossIsOne, GreatestCrossKeepsRules, GreatestCrossIsThere};
 
-/// If it holds the pair of the initial states, the second automaton accepts what the first does, in both modes.
+/// If it holds the pair of the initial states, the second automaton accepts what the first does, in
+/// both modes.
 pub fn cross_includes()
     ensures { CrossIncludes }
 {}

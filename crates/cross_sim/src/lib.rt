@@ -1,5 +1,5 @@
-//! Simulation with lookahead across two automata: the greatest cross relation, and the check of one as a proof of inclusion. Its text is that
-//! of `cross_text`.
+//! Simulation with lookahead across two automata: the greatest cross relation, and the check of one
+//! as a proof of inclusion. Its text is that of `cross_text`.
 #![tactic(auto)]
 
 mod across;

@@ -1,4 +1,5 @@
-//! Rows whose right numbers are raised, so that they name the second automaton's states after the first's.
+//! Rows whose right numbers are raised, so that they name the second automaton's states after the
+//! first's.
 
 ghost use Rattle.std.specs.Prelude.{◌≡◌, ◌+◌, ◌<◌, ◌≤◌, ◌^◌, All, IfOk, map};
 ghost use Rattle.cert_value.specs.declared.types.Run.{Run};

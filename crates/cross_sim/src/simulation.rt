@@ -11,8 +11,8 @@ use ba_format::Joined;
 use bit_rel::Rel;
 use std::alloc::Global;
 
-/// The two automata side by side in one, with no move between them: the first's states, and then the second's. It starts in the first's
-/// initial state.
+/// The two automata side by side in one, with no move between them: the first's states, and then
+/// the second's. It starts in the first's initial state.
 pub(crate) fn side_by_side(alloc: Global, first: &Auto, second: &Auto) -> Result<Auto, Memory>
     requires states { first.now.states + second.now.states < 2 ^ 32 }
     requires transitions { length first.now.transitions + length second.now.transitions < 2 ^ 32 }
@@ -58,17 +58,20 @@ fn leave_across(rel: &mut Rel, firsts: u32)
     }
 }
 
-/// The greatest cross relation at this lookahead, on the first automaton's states followed by the second's: the second's state q is the
-/// number a + q where the first has a states. (Clemente and Mayr, lookahead simulation.)
+/// The greatest cross relation at this lookahead, on the first automaton's states followed by the
+/// second's: the second's state q is the number a + q where the first has a states. (Clemente and
+/// Mayr, lookahead simulation.)
 pub fn relation(alloc: Global, pair: &Joined, look: u32) -> Result<Rel, Memory>
     requires states { pair.now.first.states + pair.now.second.states < 2 ^ 32 }
-    requires transitions { length pair.now.first.transitions + length pair.now.second.transitions < 2 ^ 32 }
+    requires transitions { length pair.now.first.transitions + length pair.now.second.transitions
+        < 2 ^ 32 }
     requires first_labels { pair.now.first.labels ≡ length pair.now.labels }
     requires second_labels { pair.now.second.labels ≡ length pair.now.labels }
     requires look_from { 1 ≤ look }
     requires look_upto { look ≤ 6 }
     ensures size { IfOk result (λ r. r.size ≡ pair.now.first.states + pair.now.second.states) }
-    ensures greatest { IfOk result (λ r. IsGreatestSideBySide pair.now.first pair.now.second look r.pairs) }
+    ensures greatest { IfOk
+        result (λ r. IsGreatestSideBySide pair.now.first pair.now.second look r.pairs) }
 {
     let both = side_by_side(alloc, &pair.first, &pair.second)?;
     let side = Across {

@@ -13,7 +13,8 @@ use cross_text::Cross;
 use relation_rows::rows_of;
 use std::alloc::Global;
 
-/// The cross relation of the pairs that lead into the second automaton's states, its right numbers the second automaton's own. It has a text.
+/// The cross relation of the pairs that lead into the second automaton's states, its right numbers
+/// the second automaton's own. It has a text.
 pub(crate) fn cross_within(
     alloc: Global,
     pair: &Joined,
@@ -43,7 +44,8 @@ pub(crate) fn cross_within(
     })
 }
 
-/// The cross relation of what `relation` gives at this lookahead, its right numbers the second automaton's own. It has a text.
+/// The cross relation of what `relation` gives at this lookahead, its right numbers the second
+/// automaton's own. It has a text.
 pub fn cross_of(alloc: Global, pair: &Joined, look: u32, rel: &Rel) -> Result<Cross, Memory>
     requires size { rel.now.size ≡ pair.now.first.states + pair.now.second.states }
     requires greatest { IsGreatestSideBySide pair.now.first pair.now.second look rel.now.pairs }

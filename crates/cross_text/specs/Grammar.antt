@@ -1,4 +1,5 @@
--- How the lines of a cross relation are read, in the way of certificates: no line is refused for what could not follow it.
+-- How the lines of a cross relation are read, in the way of certificates: no line is refused for
+-- what could not follow it.
 use Rattle.std.specs.Prelude.{◌≡◌, ℕ, List, [], ◌∷◌, Result, Ok, Err, is_none, if◌then◌else◌}
 use Rattle.cert_value.specs.declared.keywords.Keyword.TheVariants as keyword
 use Rattle.cert_value.specs.declared.types.RelBlock.{RelBlock}
@@ -20,7 +21,8 @@ cross_heading_places = Word keyword.RabitCross ∷ Word keyword.One ∷ []
 
 -- The first line; any other is no heading.
 abbrev pub cross_heading_in : Line → Said (Unit {0})
-cross_heading_in tokens = if is_none (line_fault cross_heading_places tail.Nothing tokens) then Ok tt else Err kind.Header
+cross_heading_in tokens =
+    if is_none (line_fault cross_heading_places tail.Nothing tokens) then Ok tt else Err kind.Header
 
 -- The cross relation of these parts.
 abbrev pub cross_of_parts : Sizes → ℕ → RelBlock → Cross

@@ -16,11 +16,15 @@ Left = List Line × ℕ
 abbrev pub past : Left → ℕ
 past left = left.1 + length left.0
 
--- It goes on where the grammar does, with what the grammar reads, and stops where the grammar stops; or memory was refused.
-abbrev pub ReadsOn : {A : Type 0} → (On Cross A → List Line → LinesOutcome Cross) → Left → Left → Result A CertReadFault → Type 0
-ReadsOn {A} part old new (Ok a) = (past new ≡ past old) × ((next : On Cross A) → part next old.0 ≡ next a new.0)
+-- It goes on where the grammar does, with what the grammar reads, and stops where the grammar
+-- stops; or memory was refused.
+abbrev pub ReadsOn : {A : Type 0} → (On Cross A → List Line → LinesOutcome Cross) → Left → Left
+    → Result A CertReadFault → Type 0
+ReadsOn {A} part old new (Ok a) =
+    (past new ≡ past old) × ((next : On Cross A) → part next old.0 ≡ next a new.0)
 ReadsOn {A} part old new (Err (Text fault)) =
-    (here : List Line) × (fault.line + length here ≡ past old) × ((next : On Cross A) → part next old.0 ≡ Stopped fault.kind here)
+    (here : List Line) × (fault.line + length here ≡ past old)
+    × ((next : On Cross A) → part next old.0 ≡ Stopped fault.kind here)
 ReadsOn {A} part old new (Err Memory) = Unit {0}
 
 -- This line, which is whole, was taken off.
@@ -29,11 +33,13 @@ TakesLineOff old new line = (old.0 ≡ line ∷ new.0) × (has_some new.0 ≡ tr
 
 -- No whole line is left: the last piece of the bytes is none.
 abbrev pub RunsOut : Left → CertReadFault → Type 0
-RunsOut left (Text fault) = (piece : Line) × (left.0 ≡ piece ∷ []) × (fault ≡ record { line = left.1; kind = Truncated })
+RunsOut left (Text fault) =
+    (piece : Line) × (left.0 ≡ piece ∷ []) × (fault ≡ record { line = left.1; kind = Truncated })
 RunsOut left Memory = ⊥
 
 -- No byte is left, or the first line that is left is one too many.
 abbrev pub IsAtEnd : Left → Result (Unit {0}) CertReadFault → Type 0
 IsAtEnd left (Ok x) = (c : Cross) → finish c left.0 ≡ Read c
-IsAtEnd left (Err (Text fault)) = (fault.line ≡ left.1) × ((c : Cross) → finish c left.0 ≡ Stopped fault.kind left.0)
+IsAtEnd left (Err (Text fault)) =
+    (fault.line ≡ left.1) × ((c : Cross) → finish c left.0 ≡ Stopped fault.kind left.0)
 IsAtEnd left (Err Memory) = ⊥

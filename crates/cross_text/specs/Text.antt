@@ -10,10 +10,13 @@ use Rattle.cross_text.specs.declared.types.Cross.{Cross}
 abbrev pub block_of : Cross → RelBlock
 block_of c = record { rows = c.rows }
 
--- Whether it has a text: every number and the count of its rows have at most nine digits, left numbers ascend, and each row has runs that
--- ascend, none of them right after the one before.
+-- Whether it has a text: every number and the count of its rows have at most nine digits, left
+-- numbers ascend, and each row has runs that ascend, none of them right after the one before.
 abbrev pub has_cross_text : Cross → Bool
-has_cross_text c = is_short c.first_states && (is_short c.second_states && (is_short c.labels && (is_short c.look && is_block (block_of c))))
+has_cross_text c =
+    is_short c.first_states
+    && (is_short c.second_states
+    && (is_short c.labels && (is_short c.look && is_block (block_of c))))
 
 -- It has a text.
 abbrev pub CrossFormed : Cross → Type 0

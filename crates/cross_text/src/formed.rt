@@ -6,8 +6,9 @@ ghost use Rattle.cross_text.specs.Text.{CrossFormed};
 use crate::types::Cross;
 use cert_value::{are_rows, is_short, is_short_count};
 
-/// Whether the cross relation has a text: its numbers and the count of its rows have at most nine digits, left numbers ascend, and each
-/// row has runs that ascend, none of them right after the one before. It takes no memory.
+/// Whether the cross relation has a text: its numbers and the count of its rows have at most nine
+/// digits, left numbers ascend, and each row has runs that ascend, none of them right after the one
+/// before. It takes no memory.
 pub fn cross_formed(cross: &Cross) -> bool
     ensures exact { IsTrue result ↔ CrossFormed cross.now }
 {

@@ -2,7 +2,8 @@
 
 ghost use Rattle.cross_text.specs.Law.{OneCrossText};
 
-/// No text of a cross relation is a proper front of another's, and different cross relations have different texts.
+/// No text of a cross relation is a proper front of another's, and different cross relations have
+/// different texts.
 pub fn one_cross_text()
     ensures { OneCrossText }
 {}

@@ -1,4 +1,5 @@
-//! The text of cross relations: the value, the reader with exact faults and the writer. Its lines are those of `cert_line`, its faults those of `cert_text`.
+//! The text of cross relations: the value, the reader with exact faults and the writer. Its lines
+//! are those of `cert_line`, its faults those of `cert_text`.
 #![tactic(auto)]
 
 mod formed;

@@ -61,7 +61,8 @@ impl<'a> Lines<'a> {
     /// The next whole line, without its LF.
     fn next(&mut self) -> Result<&'a [u8], CertReadFault>
         requires few { past self.old < 2 ^ 32 }
-        ensures { MatchResult result (λ line. TakesLineOff self.old self.new (tokens_of line.now)) (RunsOut self.old) }
+        ensures { MatchResult result (λ line. TakesLineOff self.old self.new (tokens_of line.now))
+            (RunsOut self.old) }
     {
         match first_line(self.rest) {
             None => Err(CertReadFault::Text(TextFault {
@@ -146,7 +147,8 @@ impl<'a> Lines<'a> {
     /// A relation: the number of its rows, and the rows.
     pub(crate) fn relation(&mut self, alloc: Global) -> Result<List<Row>, CertReadFault>
         requires few { past self.old < 2 ^ 32 }
-        ensures { ReadsOn (λ next. read_block 1 (λ block. next block.rows)) self.old self.new result }
+        ensures { ReadsOn (λ next. read_block 1 (λ block. next block.rows)) self.old self.new
+            result }
     {
         let count = self.number(Keyword::Rel)?;
         self.rows(alloc, count)

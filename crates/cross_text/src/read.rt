@@ -35,7 +35,8 @@ fn read_text(alloc: Global, bytes: &[u8]) -> Result<Cross, CertReadFault>
     })
 }
 
-/// Reads a cross relation's text, of at most 1 GiB. It takes no memory for lines that have not come.
+/// Reads a cross relation's text, of at most 1 GiB. It takes no memory for lines that have not
+/// come.
 pub fn read_cross(alloc: Global, bytes: &[u8]) -> Result<Cross, CertReadFault>
     requires { length bytes.now ≤ 2 ^ 30 }
     ensures found { IfOk result (λ c. CrossFormed c × (bytes.now ≡ cross_text c)) }

@@ -14,6 +14,7 @@ pub struct Cross {
     pub labels: u32,
     /// The lookahead.
     pub look: u32,
-    /// A row for each state of the first that is related to one of the second, ascending. Right numbers are the second's own.
+    /// A row for each state of the first that is related to one of the second, ascending. Right
+    /// numbers are the second's own.
     pub rows: List<Row>,
 }

@@ -22,7 +22,8 @@ fn print_heading(out: &mut List<u8>) -> Result<(), Memory>
 
 /// Writes the rows, with their number before them.
 fn print_rows(out: &mut List<u8>, rows: &[Row]) -> Result<(), Memory>
-    ensures { OnOk result (out.new ≡ out.old ++ text_of (block_lines 1 (record { rows = rows.now }))) }
+    ensures { OnOk result
+        (out.new ≡ out.old ++ text_of (block_lines 1 (record { rows = rows.now }))) }
 {
     print_count(out, Keyword::Rel, rows.len())?;
     print_all(out, rows, 1)?;

@@ -24,7 +24,8 @@ use Rattle.cert_check.specs.Listing.{AreDifferentListed}
 use Rattle.decide.specs.Searches.{rules_in, bound_in, NoneSubsumedBeforeIn}
 use Rattle.decide.specs.Answer.{HasFewParts, IsOrder, Decides, IsAnswer, Reductions, AreReductions}
 
--- The two automata are valid, over as many labels as there are texts, and small enough to be decided.
+-- The two automata are valid, over as many labels as there are texts, and small enough to be
+-- decided.
 pub record CanDecide (pair : Joined) : Type 0 where
   pub first : IsAutomaton pair.first
   pub second : IsAutomaton pair.second
@@ -34,36 +35,44 @@ pub record CanDecide (pair : Joined) : Type 0 where
   pub first_parts : HasFewParts 2048 pair.first
   pub second_parts : HasFewParts 512 pair.second
 
--- The logs lead from the read automata to these two, in which no step of the reduction has anything left to do.
-pub record AreSettledEnds (pair : Joined) (terms : Terms) (firsts : List FirstStep) (seconds : List SecondStep) (ends : Ends) : Type 0 where
+-- The logs lead from the read automata to these two, in which no step of the reduction has anything
+-- left to do.
+pub record AreSettledEnds (pair : Joined) (terms : Terms) (firsts : List FirstStep)
+    (seconds : List SecondStep) (ends : Ends) : Type 0 where
   pub lead : AreEnds terms.mode pair.first pair.second firsts seconds ends
   pub first_settled : IsSettled ends.first terms.mode (sight_of terms)
   pub second_settled : IsSettled ends.second terms.mode (sight_of terms)
 
--- The logs of the evidence lead to settled automata, and no live element subsumes another, by the order that the search of these goes by.
+-- The logs of the evidence lead to settled automata, and no live element subsumes another, by the
+-- order that the search of these goes by.
 pub record StandApart (pair : Joined) (terms : Terms) (evidence : YesBody) : Type 0 where
   pub ends : Ends
   pub settled : AreSettledEnds pair terms evidence.first evidence.second ends
   pub order : List (ℕ × ℕ)
   pub ordered : IsOrder ends.second order
-  pub apart : LiveStandApart (rules_in terms.mode ends.first ends.second order) ends.first (origins_of evidence) (live_in evidence)
+  pub apart : LiveStandApart (rules_in terms.mode ends.first ends.second order) ends.first
+      (origins_of evidence) (live_in evidence)
 
--- The logs of the list lead to settled automata. It has limit + 1 different supergraphs of these, in finite mode pairs of a state and a
--- set, and none is subsumed by an earlier one, by the order that the search of these goes by. The limit is below the bound on different
--- ones of the read automata.
+-- The logs of the list lead to settled automata. It has limit + 1 different supergraphs of these,
+-- in finite mode pairs of a state and a set, and none is subsumed by an earlier one, by the order
+-- that the search of these goes by. The limit is below the bound on different ones of the read
+-- automata.
 pub record ListsNew (pair : Joined) (terms : Terms) (list : ListBody) : Type 0 where
   pub ends : Ends
   pub settled : AreSettledEnds pair terms list.first list.second ends
   pub listed : AreDifferentListed terms.mode ends.first ends.second (terms.limit + 1) list.elements
   pub order : List (ℕ × ℕ)
   pub ordered : IsOrder ends.second order
-  pub fresh : NoneSubsumedBeforeIn (rules_in terms.mode ends.first ends.second order) ends.first list.elements
+  pub fresh : NoneSubsumedBeforeIn (rules_in terms.mode ends.first ends.second order) ends.first
+      list.elements
   pub below : terms.limit < bound_in terms.mode pair.first.states pair.second.states
 
 -- What the body says is so.
 abbrev pub AnswerIsTrue : Joined → Terms → Body → Type 0
-AnswerIsTrue pair terms (Yes evidence) = Includes pair.first pair.second terms.mode × StandApart pair terms evidence
-AnswerIsTrue pair terms (NoLasso lasso) = SeparatesLasso pair.first pair.second lasso.prefix lasso.turn
+AnswerIsTrue pair terms (Yes evidence) =
+    Includes pair.first pair.second terms.mode × StandApart pair terms evidence
+AnswerIsTrue pair terms (NoLasso lasso) =
+    SeparatesLasso pair.first pair.second lasso.prefix lasso.turn
 AnswerIsTrue pair terms (NoWord word) = SeparatesWord pair.first pair.second word
 AnswerIsTrue pair terms (Listing list) = ListsNew pair terms list
 
@@ -78,7 +87,8 @@ OneAnswer =
     → IsAnswer pair terms d
     → c ≡ d
 
--- An answer has a text, at each lookahead from 1 to 6, up to 4 letters asked for and each limit up to 100,000.
+-- An answer has a text, at each lookahead from 1 to 6, up to 4 letters asked for and each limit up
+-- to 100,000.
 abbrev pub AnswersAreFormed : Type 0
 AnswersAreFormed =
     (pair : Joined) (terms : Terms) (cert : Cert)
@@ -116,7 +126,8 @@ ReductionsAreOne =
     → AreReductions pair terms other
     → at ≡ other
 
--- The logs as they are written lead, by the rules of the check, from the two automata to the reduced ones.
+-- The logs as they are written lead, by the rules of the check, from the two automata to the
+-- reduced ones.
 abbrev pub WrittenLogsLead : Type 0
 WrittenLogsLead =
     (pair : Joined) (terms : Terms) (at : Reductions)
@@ -125,7 +136,8 @@ WrittenLogsLead =
     → 1 ≤ terms.look
     → terms.look ≤ 6
     → AreReductions pair terms at
-    → AreEnds terms.mode pair.first pair.second at.first_log at.second_log (record { first = at.first; second = at.second })
+    → AreEnds terms.mode pair.first pair.second at.first_log at.second_log
+    (record { first = at.first; second = at.second })
 
 -- The search on the log ends has one order and one outcome.
 abbrev pub OneOutcomeDecides : Type 0

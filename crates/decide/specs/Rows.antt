@@ -17,18 +17,21 @@ code_for (Some r) = r + 1
 abbrev pub ranked_of_triple : Triple → Ranked
 ranked_of_triple x = record { right = x.2; code = code_for x.3 }
 
--- The number of the triples, their states, the letters of their words and the codes of their ranks have at most nine digits.
+-- The number of the triples, their states, the letters of their words and the codes of their ranks
+-- have at most nine digits.
 pub record HasFewTriples (ranks : Ranking) : Type 0 where
   pub count : length ranks.triples < 1000000000
   pub states : ranks.states ≤ 1000000000
   pub labels : ranks.labels ≤ 1000000000
   pub below : (b : List ℕ) (p q r : ℕ) → HasRank ranks.triples b p q r → r + 1 < 1000000000
 
--- The row has the triples from `at` up to `end`, and stands behind each row with a lesser left state and word.
+-- The row has the triples from `at` up to `end`, and stands behind each row with a lesser left
+-- state and word.
 pub record IsRankRowOf (ranks : Ranking) (at end : ℕ) (row : RankRow) : Type 0 where
   pub triples : triples_of_row row ≡ take (end - at) (drop at ranks.triples)
   pub key : rank_key row ≡ row_key (triple_at ranks.triples at)
-  pub formed : (key : List ℕ) → is_less key (rank_key row) ≡ true → is_rank_row ranks.letters key row ≡ true
+  pub formed : (key : List ℕ) → is_less key (rank_key row) ≡ true
+      → is_rank_row ranks.letters key row ≡ true
 
 -- The left state and the word of the last row; of none this key.
 abbrev pub last_row_key : List ℕ → List RankRow → List ℕ
@@ -41,4 +44,5 @@ pub record AreRankRows (ranks : Ranking) (at : ℕ) (rows : List RankRow) : Type
   pub formed : are_rank_rows ranks.letters [] rows ≡ true
   pub triples : flat_map triples_of_row rows ≡ take at ranks.triples
   pub few : length rows ≤ at
-  pub next : at < length ranks.triples → is_less (last_row_key [] rows) (row_key (triple_at ranks.triples at)) ≡ true
+  pub next : at < length ranks.triples
+      → is_less (last_row_key [] rows) (row_key (triple_at ranks.triples at)) ≡ true

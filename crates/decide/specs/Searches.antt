@@ -1,4 +1,5 @@
--- The searches of both modes: over supergraphs where lassos are compared, over pairs of a state and a set where finite words are.
+-- The searches of both modes: over supergraphs where lassos are compared, over pairs of a state and
+-- a set where finite words are.
 use Rattle.std.specs.Prelude.{ℕ, ◌<◌, List, length}
 use Rattle.auto_core.specs.Automaton.{Automaton}
 use Rattle.auto_core.specs.Outcome.{Rules, Entry, supergraph_rules}
@@ -21,4 +22,6 @@ bound_in Finite a b = pair_bound a b
 
 -- No origin's element is subsumed by that of an earlier one.
 abbrev pub NoneSubsumedBeforeIn : Rules Entry → Automaton → List Origin → Type 0
-NoneSubsumedBeforeIn R A origins = (i j : ℕ) → i < j → j < length origins → R.subsumes (entry_at A origins i) (entry_at A origins j) → ⊥
+NoneSubsumedBeforeIn R A origins =
+    (i j : ℕ) → i < j → j < length origins
+    → R.subsumes (entry_at A origins i) (entry_at A origins j) → ⊥

@@ -93,7 +93,8 @@ fn word_body(
     }
 }
 
-/// The body of the certificate for how the search of the mode ends on the two automata, behind these logs.
+/// The body of the certificate for how the search of the mode ends on the two automata, behind
+/// these logs.
 pub(crate) fn body_of(
     alloc: Global,
     first: &Auto,

@@ -32,27 +32,43 @@ fn answer(alloc: Global, pair: &Joined, terms: Terms) -> Result<Cert, Memory>
     requires bounded { AreBounded terms }
     requires some { 1 ≤ terms.limit }
 
-    // The certificate is the answer: what it has to hold for the outcome of the search on the reduced automata.
+    // The certificate is the answer: what it has to hold for the outcome of the search on the
+    // reduced automata.
     ensures answer { IfOk result (IsAnswer pair.now terms) }
 
     // It has a text, and it is valid for the two automata: it keeps all rules of the check.
     ensures formed { IfOk result WellFormed }
     ensures valid { IfOk result (IsValid pair.now) }
 
-    // A yes says an inclusion. Its logs lead to settled automata, and no live element of it subsumes another there.
-    ensures included { IfOk result (λ cert. (evidence : YesBody) → cert.body ≡ body.Yes evidence → Includes pair.now.first pair.now.second terms.mode) }
-    ensures apart_live { IfOk result (λ cert. (evidence : YesBody) → cert.body ≡ body.Yes evidence → StandApart pair.now terms evidence) }
+    // A yes says an inclusion. Its logs lead to settled automata, and no live element of it
+    // subsumes another there.
+    ensures included { IfOk
+        result (λ cert.
+        (evidence : YesBody) → cert.body ≡ body.Yes evidence
+        → Includes pair.now.first pair.now.second terms.mode) }
+    ensures apart_live { IfOk
+        result (λ cert.
+        (evidence : YesBody) → cert.body ≡ body.Yes evidence → StandApart pair.now terms evidence) }
 
     // A no has a lasso that separates the two automata, in finite mode a word.
-    ensures apart { IfOk result (λ cert. (lasso : Lasso) → cert.body ≡ body.NoLasso lasso → SeparatesLasso pair.now.first pair.now.second lasso.prefix lasso.turn) }
-    ensures apart_word { IfOk result (λ cert. (word : List ℕ) → cert.body ≡ body.NoWord word → SeparatesWord pair.now.first pair.now.second word) }
+    ensures apart { IfOk
+        result (λ cert.
+        (lasso : Lasso) → cert.body ≡ body.NoLasso lasso
+        → SeparatesLasso pair.now.first pair.now.second lasso.prefix lasso.turn) }
+    ensures apart_word { IfOk
+        result (λ cert.
+        (word : List ℕ) → cert.body ≡ body.NoWord word
+        → SeparatesWord pair.now.first pair.now.second word) }
 
-    // The logs of a list lead to settled automata. It has limit + 1 different supergraphs of these, in finite mode pairs of a state and a
-    // set, none subsumed by an earlier one.
-    ensures listed { IfOk result (λ cert. (list : ListBody) → cert.body ≡ body.Listing list → ListsNew pair.now terms list) }
+    // The logs of a list lead to settled automata. It has limit + 1 different supergraphs of these,
+    // in finite mode pairs of a state and a set, none subsumed by an earlier one.
+    ensures listed { IfOk
+        result (λ cert.
+        (list : ListBody) → cert.body ≡ body.Listing list → ListsNew pair.now terms list) }
 
     // At a limit of at least the bound on different ones of the two automata no list comes.
-    ensures no_list { bound_in terms.mode pair.now.first.states pair.now.second.states ≤ terms.limit → IfOk result (λ cert. (list : ListBody) → cert.body ≡ body.Listing list → ⊥) }
+    ensures no_list { bound_in terms.mode pair.now.first.states pair.now.second.states ≤ terms.limit
+        → IfOk result (λ cert. (list : ListBody) → cert.body ≡ body.Listing list → ⊥) }
 {
     let first_states = pair.first.states();
     let second_states = pair.second.states();
@@ -70,10 +86,12 @@ fn answer(alloc: Global, pair: &Joined, terms: Terms) -> Result<Cert, Memory>
     })
 }
 
-/// Decides whether the second automaton accepts each lasso, in finite mode each word, that the first accepts. Both are reduced at the
-/// lookahead, and the reduced ones are searched. The certificate is the answer, in version 1: a yes with the evidence of a closed set, a
-/// no with a lasso or word that separates the two, or the list of limit + 1 supergraphs, in finite mode pairs of a state and a set, where
-/// the limit was met. A yes and a list have the logs of both reductions.
+/// Decides whether the second automaton accepts each lasso, in finite mode each word, that the
+/// first accepts. Both are reduced at the lookahead, and the reduced ones are searched. The
+/// certificate is the answer, in version 1: a yes with the evidence of a closed set, a no with a
+/// lasso or word that separates the two, or the list of limit + 1 supergraphs, in finite mode pairs
+/// of a state and a set, where the limit was met. A yes and a list have the logs of both
+/// reductions.
 pub fn include(
     alloc: Global,
     pair: &Joined,
@@ -91,27 +109,45 @@ pub fn include(
     requires some { 1 ≤ limit }
     requires few { limit ≤ 100000 }
 
-    // The certificate is the answer: what it has to hold for the outcome of the search on the reduced automata.
+    // The certificate is the answer: what it has to hold for the outcome of the search on the
+    // reduced automata.
     ensures answer { IfOk result (IsAnswer pair.now (terms_of_version_1 mode look limit)) }
 
     // It has a text, and it is valid for the two automata: it keeps all rules of the check.
     ensures formed { IfOk result WellFormed }
     ensures valid { IfOk result (IsValid pair.now) }
 
-    // A yes says an inclusion. Its logs lead to settled automata, and no live element of it subsumes another there.
-    ensures included { IfOk result (λ cert. (evidence : YesBody) → cert.body ≡ body.Yes evidence → Includes pair.now.first pair.now.second mode) }
-    ensures apart_live { IfOk result (λ cert. (evidence : YesBody) → cert.body ≡ body.Yes evidence → StandApart pair.now (terms_of_version_1 mode look limit) evidence) }
+    // A yes says an inclusion. Its logs lead to settled automata, and no live element of it
+    // subsumes another there.
+    ensures included { IfOk
+        result (λ cert.
+        (evidence : YesBody) → cert.body ≡ body.Yes evidence
+        → Includes pair.now.first pair.now.second mode) }
+    ensures apart_live { IfOk
+        result (λ cert.
+        (evidence : YesBody) → cert.body ≡ body.Yes evidence
+        → StandApart pair.now (terms_of_version_1 mode look limit) evidence) }
 
     // A no has a lasso that separates the two automata, in finite mode a word.
-    ensures apart { IfOk result (λ cert. (lasso : Lasso) → cert.body ≡ body.NoLasso lasso → SeparatesLasso pair.now.first pair.now.second lasso.prefix lasso.turn) }
-    ensures apart_word { IfOk result (λ cert. (word : List ℕ) → cert.body ≡ body.NoWord word → SeparatesWord pair.now.first pair.now.second word) }
+    ensures apart { IfOk
+        result (λ cert.
+        (lasso : Lasso) → cert.body ≡ body.NoLasso lasso
+        → SeparatesLasso pair.now.first pair.now.second lasso.prefix lasso.turn) }
+    ensures apart_word { IfOk
+        result (λ cert.
+        (word : List ℕ) → cert.body ≡ body.NoWord word
+        → SeparatesWord pair.now.first pair.now.second word) }
 
-    // The logs of a list lead to settled automata. It has limit + 1 different supergraphs of these, in finite mode pairs of a state and a
-    // set, none subsumed by an earlier one.
-    ensures listed { IfOk result (λ cert. (list : ListBody) → cert.body ≡ body.Listing list → ListsNew pair.now (terms_of_version_1 mode look limit) list) }
+    // The logs of a list lead to settled automata. It has limit + 1 different supergraphs of these,
+    // in finite mode pairs of a state and a set, none subsumed by an earlier one.
+    ensures listed { IfOk
+        result (λ cert.
+        (list : ListBody) → cert.body ≡ body.Listing list
+        → ListsNew pair.now (terms_of_version_1 mode look limit) list) }
 
     // At a limit of at least the bound on different ones of the two automata no list comes.
-    ensures no_list { bound_in mode pair.now.first.states pair.now.second.states ≤ limit → IfOk result (λ cert. (list : ListBody) → cert.body ≡ body.Listing list → ⊥) }
+    ensures no_list { bound_in mode pair.now.first.states pair.now.second.states ≤ limit
+        → IfOk result (λ cert. (list : ListBody) → cert.body ≡ body.Listing list → ⊥) }
 {
     answer(
         alloc,
@@ -126,7 +162,8 @@ pub fn include(
     )
 }
 
-/// The same with so many letters asked for in the delayed games of the reductions, and the answer in version 2.
+/// The same with so many letters asked for in the delayed games of the reductions, and the answer
+/// in version 2.
 pub fn include_ahead(
     alloc: Global,
     pair: &Joined,
@@ -147,27 +184,45 @@ pub fn include_ahead(
     requires some { 1 ≤ limit }
     requires few { limit ≤ 100000 }
 
-    // The certificate is the answer: what it has to hold for the outcome of the search on the reduced automata.
+    // The certificate is the answer: what it has to hold for the outcome of the search on the
+    // reduced automata.
     ensures answer { IfOk result (IsAnswer pair.now (terms_of_version_2 mode look letters limit)) }
 
     // It has a text, and it is valid for the two automata: it keeps all rules of the check.
     ensures formed { IfOk result WellFormed }
     ensures valid { IfOk result (IsValid pair.now) }
 
-    // A yes says an inclusion. Its logs lead to settled automata, and no live element of it subsumes another there.
-    ensures included { IfOk result (λ cert. (evidence : YesBody) → cert.body ≡ body.Yes evidence → Includes pair.now.first pair.now.second mode) }
-    ensures apart_live { IfOk result (λ cert. (evidence : YesBody) → cert.body ≡ body.Yes evidence → StandApart pair.now (terms_of_version_2 mode look letters limit) evidence) }
+    // A yes says an inclusion. Its logs lead to settled automata, and no live element of it
+    // subsumes another there.
+    ensures included { IfOk
+        result (λ cert.
+        (evidence : YesBody) → cert.body ≡ body.Yes evidence
+        → Includes pair.now.first pair.now.second mode) }
+    ensures apart_live { IfOk
+        result (λ cert.
+        (evidence : YesBody) → cert.body ≡ body.Yes evidence
+        → StandApart pair.now (terms_of_version_2 mode look letters limit) evidence) }
 
     // A no has a lasso that separates the two automata, in finite mode a word.
-    ensures apart { IfOk result (λ cert. (lasso : Lasso) → cert.body ≡ body.NoLasso lasso → SeparatesLasso pair.now.first pair.now.second lasso.prefix lasso.turn) }
-    ensures apart_word { IfOk result (λ cert. (word : List ℕ) → cert.body ≡ body.NoWord word → SeparatesWord pair.now.first pair.now.second word) }
+    ensures apart { IfOk
+        result (λ cert.
+        (lasso : Lasso) → cert.body ≡ body.NoLasso lasso
+        → SeparatesLasso pair.now.first pair.now.second lasso.prefix lasso.turn) }
+    ensures apart_word { IfOk
+        result (λ cert.
+        (word : List ℕ) → cert.body ≡ body.NoWord word
+        → SeparatesWord pair.now.first pair.now.second word) }
 
-    // The logs of a list lead to settled automata. It has limit + 1 different supergraphs of these, in finite mode pairs of a state and a
-    // set, none subsumed by an earlier one.
-    ensures listed { IfOk result (λ cert. (list : ListBody) → cert.body ≡ body.Listing list → ListsNew pair.now (terms_of_version_2 mode look letters limit) list) }
+    // The logs of a list lead to settled automata. It has limit + 1 different supergraphs of these,
+    // in finite mode pairs of a state and a set, none subsumed by an earlier one.
+    ensures listed { IfOk
+        result (λ cert.
+        (list : ListBody) → cert.body ≡ body.Listing list
+        → ListsNew pair.now (terms_of_version_2 mode look letters limit) list) }
 
     // At a limit of at least the bound on different ones of the two automata no list comes.
-    ensures no_list { bound_in mode pair.now.first.states pair.now.second.states ≤ limit → IfOk result (λ cert. (list : ListBody) → cert.body ≡ body.Listing list → ⊥) }
+    ensures no_list { bound_in mode pair.now.first.states pair.now.second.states ≤ limit
+        → IfOk result (λ cert. (list : ListBody) → cert.body ≡ body.Listing list → ⊥) }
 {
     answer(
         alloc,

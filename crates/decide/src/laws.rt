@@ -32,7 +32,8 @@ pub fn written_logs_lead()
     ensures { WrittenLogsLead }
 {}
 
-/// The search has one order and one outcome: the greatest relation, as a list of pairs in ascending order, is one.
+/// The search has one order and one outcome: the greatest relation, as a list of pairs in ascending
+/// order, is one.
 pub fn one_outcome_decides()
     ensures { OneOutcomeDecides }
 {}

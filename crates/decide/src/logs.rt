@@ -57,7 +57,10 @@ fn with_block(
     rel: &Option<Rel>,
 ) -> Result<List<RelBlock>, Memory>
     requires { IfSome rel.now IsOnFew }
-    ensures { IfOk result (λ made. (before : Items Relation) → AreBlocksOf before blocks → AreBlocksOf (before ++ one_given rel.now) made) }
+    ensures { IfOk
+        result (λ made.
+        (before : Items Relation) → AreBlocksOf before blocks
+        → AreBlocksOf (before ++ one_given rel.now) made) }
 {
     let mut blocks = blocks;
     if let Some(rel) = rel {
@@ -80,7 +83,8 @@ fn blocks_of(
     with_block(alloc, blocks, ahead)
 }
 
-/// A step as the first log has it: a merge with its classes alone, and a cut with the relations that it goes by.
+/// A step as the first log has it: a merge with its classes alone, and a cut with the relations
+/// that it goes by.
 fn first_step(alloc: Global, step: &Step) -> Result<FirstStep, Memory>
     requires { IsStepOnFew step.now }
     ensures { IfOk result (IsFirstWritten step.now) }
@@ -140,7 +144,8 @@ fn grounds_of(alloc: Global, by: &MergeBy) -> Result<Grounds, Memory>
     }
 }
 
-/// A step as the second log has it: a merge with its grounds, and a cut with the transitions that go alone.
+/// A step as the second log has it: a merge with its grounds, and a cut with the transitions that
+/// go alone.
 fn second_step(alloc: Global, step: &Step) -> Result<SecondStep, Memory>
     requires { IsStepOnFew step.now }
     ensures { IfOk result (IsSecondWritten step.now) }

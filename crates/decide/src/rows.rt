@@ -43,7 +43,8 @@ fn ranked_rights(
 ) -> Result<List<Ranked>, Memory>
     requires within { at + count ≤ length ranks.now.triples }
     requires few { HasFewTriples ranks.now }
-    ensures { IfOk result (λ rights. rights ≡ map ranked_of_triple (take count (drop at ranks.now.triples))) }
+    ensures { IfOk
+        result (λ rights. rights ≡ map ranked_of_triple (take count (drop at ranks.now.triples))) }
 {
     let mut rights = List::new(alloc);
     for i in 0..count {
@@ -60,7 +61,8 @@ fn rank_row(alloc: Global, ranks: &Delayed, at: usize, end: usize) -> Result<Ran
     requires some { at < end }
     requires within { end ≤ length ranks.now.triples }
     requires few { HasFewTriples ranks.now }
-    requires same { (i : ℕ) → at ≤ i → i < end → row_key (triple_at ranks.now.triples i) ≡ row_key (triple_at ranks.now.triples at) }
+    requires same { (i : ℕ) → at ≤ i → i < end
+        → row_key (triple_at ranks.now.triples i) ≡ row_key (triple_at ranks.now.triples at) }
     ensures { IfOk result (IsRankRowOf ranks.now at end) }
 {
     Ok(RankRow {

@@ -18,13 +18,15 @@ pub record IsPairing (R : Pairing) : Type 0 where
   pub in_order : ArePairsAscending R.pairs
   pub few : length R.pairs ≤ R.places * R.states
 
--- The new one is on the same places and states and holds the pairs of the old one but for this pair.
+-- The new one is on the same places and states and holds the pairs of the old one but for this
+-- pair.
 pub record Removes (old new : Pairing) (x q : ℕ) : Type 0 where
   pub places : new.places ≡ old.places
   pub states : new.states ≡ old.states
   pub pairs : (y s : ℕ) → Holds new.pairs y s ↔ (Holds old.pairs y s × ¬ ((y ≡ x) × (s ≡ q)))
 
--- The new one is on the same places and states and holds the pairs of the old one, of the place x those alone whose state the row has.
+-- The new one is on the same places and states and holds the pairs of the old one, of the place x
+-- those alone whose state the row has.
 pub record IsNarrowed (old new : Pairing) (x : ℕ) (row : List ℕ) : Type 0 where
   pub places : new.places ≡ old.places
   pub states : new.states ≡ old.states
@@ -32,7 +34,8 @@ pub record IsNarrowed (old new : Pairing) (x : ℕ) (row : List ℕ) : Type 0 wh
 
 -- The relation that a table of bits with a row for each place stands for.
 abbrev pub table_pairing : List ℕ → ℕ → ℕ → ℕ → Pairing
-table_pairing table width m n = record { places = m; states = n; pairs = pairs_below (cell_of table width) n m }
+table_pairing table width m n =
+    record { places = m; states = n; pairs = pairs_below (cell_of table width) n m }
 
 -- What the fields stand for.
 abbrev pub pairing_of : Inside → Pairing
@@ -42,4 +45,5 @@ pairing_of b = table_pairing b.table.items b.width b.places b.states
 pub record IsStoredPairing (b : Inside) : Type 0 where
   pub width : b.width ≡ (b.states + 63) / 64
   pub len : length b.table.items ≡ b.places * b.width
-  pub columns : (x q : ℕ) → x < b.places → q < b.width * 64 → HasCell b.table.items b.width x q → q < b.states
+  pub columns : (x q : ℕ) → x < b.places → q < b.width * 64 → HasCell b.table.items b.width x q
+      → q < b.states

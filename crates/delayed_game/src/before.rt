@@ -1,4 +1,5 @@
-//! The states from which a move by a letter leads into a row of states, for all letters by which moves lead to one place.
+//! The states from which a move by a letter leads into a row of states, for all letters by which
+//! moves lead to one place.
 
 ghost use Rattle.std.specs.Prelude.{◌≡◌, ◌+◌, ◌*◌, ◌/◌, ◌<◌, ◌≤◌, ◌↔◌, ◌⊎◌, ℕ, false, length};
 ghost use Rattle.auto_core.specs.Automaton.{IsAutomaton, Moves};
@@ -14,7 +15,8 @@ fn clear_letters(places: &Auto, to: u32, made: &mut [u64], width: usize)
     requires valid { IsAutomaton places.now }
     requires place { to < places.now.states }
     requires made { length made.old ≡ places.now.labels * width }
-    ensures { (p a q : ℕ) → Moves places.now p a to → q < width * 64 → cell_of made.new width a q ≡ false }
+    ensures { (p a q : ℕ) → Moves places.now p a to → q < width * 64
+        → cell_of made.new width a q ≡ false }
 {
     let before = places.predecessors(to);
     for i in 0..before.len() {
@@ -29,7 +31,9 @@ pub fn mark_before(automaton: &Auto, right: u32, made: &mut [u64], width: usize)
     requires state { right < automaton.now.states }
     requires room { automaton.now.states ≤ width * 64 }
     requires made { length made.old ≡ automaton.now.labels * width }
-    ensures { (a q : ℕ) → q < width * 64 → HasCell made.new width a q ↔ (HasCell made.old width a q ⊎ Moves automaton.now q a right) }
+    ensures { (a q : ℕ) → q < width * 64
+        → HasCell made.new width a q
+        ↔ (HasCell made.old width a q ⊎ Moves automaton.now q a right) }
 {
     let before = automaton.predecessors(right);
     for i in 0..before.len() {
@@ -38,14 +42,17 @@ pub fn mark_before(automaton: &Auto, right: u32, made: &mut [u64], width: usize)
     }
 }
 
-/// Marks the states from which a move leads to a state of `ends`, each in the row of the move's letter.
+/// Marks the states from which a move leads to a state of `ends`, each in the row of the move's
+/// letter.
 pub fn mark_ends(automaton: &Auto, ends: &[u64], made: &mut [u64], width: usize)
     requires valid { IsAutomaton automaton.now }
     requires ends { (q : ℕ) → HasBit ends.now q → q < automaton.now.states }
     requires width { width ≡ (automaton.now.states + 63) / 64 }
     requires ends_len { length ends.now ≡ width }
     requires made { length made.old ≡ automaton.now.labels * width }
-    ensures { (a q : ℕ) → q < width * 64 → HasCell made.new width a q ↔ (HasCell made.old width a q ⊎ LeadsTo automaton.now a ends.now q) }
+    ensures { (a q : ℕ) → q < width * 64
+        → HasCell made.new width a q
+        ↔ (HasCell made.old width a q ⊎ LeadsTo automaton.now a ends.now q) }
 {
     let mut at = 0;
     while let Some(right) = next_bit(ends, at) {
@@ -54,7 +61,8 @@ pub fn mark_ends(automaton: &Auto, ends: &[u64], made: &mut [u64], width: usize)
     }
 }
 
-/// Writes into the row of each letter by which moves lead to the place `to` the states from which a move by it leads to a state of
+/// Writes into the row of each letter by which moves lead to the place `to` the states from which a
+/// move by it leads to a state of
 /// `ends`. `sets` has the table of sets, or nothing.
 pub fn write_before(
     places: &Auto,
@@ -74,7 +82,8 @@ pub fn write_before(
     requires width { width ≡ (automaton.now.states + 63) / 64 }
     requires ends_len { length ends.now ≡ width }
     requires made { length made.old ≡ automaton.now.labels * width }
-    ensures { (p a q : ℕ) → Moves places.now p a to → q < width * 64 → HasCell made.new width a q ↔ LeadsTo automaton.now a ends.now q }
+    ensures { (p a q : ℕ) → Moves places.now p a to → q < width * 64
+        → HasCell made.new width a q ↔ LeadsTo automaton.now a ends.now q }
 {
     clear_letters(places, to, made, width);
     if sets.is_empty() {

@@ -1,4 +1,5 @@
-//! Answers to the moves to a block of 64 places at once: each of these places is a column of a table that has one word for each state.
+//! Answers to the moves to a block of 64 places at once: each of these places is a column of a
+//! table that has one word for each state.
 
 ghost use Rattle.std.specs.Prelude.{◌≡◌, ◌+◌, ◌*◌, ◌/◌, ◌%◌, ◌^◌, ◌<◌, ◌≤◌, ◌↔◌, ◌⊎◌, ℕ, length};
 ghost use Rattle.auto_core.specs.Automaton.{IsAutomaton, trans_at};
@@ -17,7 +18,8 @@ fn find_columns(automaton: &Auto, label: u32, words: &[u64], found: &mut [u64])
     requires valid { IsAutomaton automaton.now }
     requires words { length words.now ≡ automaton.now.states }
     requires found { length found.old ≡ automaton.now.states }
-    ensures { (q j : ℕ) → j < 64 → HasCell found.new 1 q j ↔ LeadsToColumn automaton.now words.now label j q }
+    ensures { (q j : ℕ) → j < 64
+        → HasCell found.new 1 q j ↔ LeadsToColumn automaton.now words.now label j q }
 {
     rows::clear_row(found);
     let steps = automaton.transitions();
@@ -29,7 +31,8 @@ fn find_columns(automaton: &Auto, label: u32, words: &[u64], found: &mut [u64])
     }
 }
 
-/// Adds the row of each column to that of each transition by the letter into the column's place, where `block` is the number of the 64 places.
+/// Adds the row of each column to that of each transition by the letter into the column's place,
+/// where `block` is the number of the 64 places.
 fn note_turned(
     places: &Auto,
     label: u32,
@@ -76,14 +79,17 @@ fn write_words(
     requires width { width ≡ (states + 63) / 64 }
     requires some { states < 2 ^ 32 }
     requires words { length words.old ≡ states }
-    ensures { (q j : ℕ) → q < states → j < 64 → HasCell words.new 1 q j ↔ ((block * 64 + j < places) × HasCell fresh.now width (block * 64 + j) q) }
+    ensures { (q j : ℕ) → q < states → j < 64
+        → HasCell words.new 1 q j
+        ↔ ((block * 64 + j < places) × HasCell fresh.now width (block * 64 + j) q) }
 {
     let first = block * COLUMNS;
     let count = COLUMNS.min(places - first);
     transpose(&fresh[first * width..], width, count, words, 1, states);
 }
 
-/// Notes as answers to moves by the letter to the 64 places with this number the states that move by it to a state with the place's column.
+/// Notes as answers to moves by the letter to the 64 places with this number the states that move
+/// by it to a state with the place's column.
 fn note_letter(
     places: &Auto,
     automaton: &Auto,
@@ -154,8 +160,8 @@ fn note_block(
     }
 }
 
-/// Notes the answers by the pairs that stand in the rows of `fresh`, 64 places at once. `words` and `found` are room for a word for each
-/// state, `turned` for 64 rows.
+/// Notes the answers by the pairs that stand in the rows of `fresh`, 64 places at once. `words` and
+/// `found` are room for a word for each state, `turned` for 64 rows.
 pub fn note_by_blocks(
     places: &Auto,
     automaton: &Auto,

@@ -21,8 +21,8 @@ pub(crate) fn bits_in(row: &[u64]) -> usize {
     count
 }
 
-/// A relation from the places below a number to the states below another. Contracts see it as a `Pairing`: these numbers and the list of
-/// the pairs, ascending.
+/// A relation from the places below a number to the states below another. Contracts see it as a
+/// `Pairing`: these numbers and the list of the pairs, ascending.
 #[derive(Debug, Drop)]
 pub struct Board {
     places: u32,
@@ -44,14 +44,18 @@ impl Model for Board {
 }
 
 impl Board {
-    /// A relation where so many places, one after another, have the states that the given relation has for one of its states.
+    /// A relation where so many places, one after another, have the states that the given relation
+    /// has for one of its states.
     pub fn of_relation(alloc: Global, rel: &Rel, words: u32) -> Result<Board, Memory>
         requires some { 0 < words }
         requires few { rel.now.size * words < 2 ^ 32 }
         ensures places { IfOk result (λ b. b.places ≡ rel.now.size * words) }
         ensures states { IfOk result (λ b. b.states ≡ rel.now.size) }
         ensures valid { IfOk result IsPairing }
-        ensures pairs { IfOk result (λ b. (x q : ℕ) → x < rel.now.size * words → Holds b.pairs x q ↔ Holds rel.now.pairs (x / words) q) }
+        ensures pairs { IfOk
+            result (λ b.
+            (x q : ℕ) → x < rel.now.size * words
+            → Holds b.pairs x q ↔ Holds rel.now.pairs (x / words) q) }
     {
         let states = rel.size();
         let places = states * words;

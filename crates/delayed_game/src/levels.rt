@@ -1,5 +1,5 @@
-//! The least ranks inside a relation, level by level: a pair is ranked when each move of its place is answered by a pair that was ranked
-//! before.
+//! The least ranks inside a relation, level by level: a pair is ranked when each move of its place
+//! is answered by a pair that was ranked before.
 
 ghost use Rattle.std.specs.Prelude.{◌≡◌, ◌<◌, ◌≤◌, ◌↔◌, ◌⊎◌, ◌+◌, ◌*◌, ◌/◌, ◌^◌, ℕ, length, Some, None, true, false, All, slice_index, IfOk};
 ghost use Rattle.auto_core.specs.Automaton.{IsAutomaton, IsAccepting, trans_at};
@@ -30,7 +30,9 @@ fn give_ranks(unranked: &mut Board, ranks: &mut [u32], p: u32, row: &[u64], rank
     ensures places { unranked.new.places ≡ unranked.old.places }
     ensures states { unranked.new.states ≡ unranked.old.states }
     ensures valid { IsPairing unranked.new }
-    ensures pairs { (r s : ℕ) → Holds unranked.new.pairs r s ↔ (Holds unranked.old.pairs r s × ((r ≡ p) × HasBit row.now s → ⊥)) }
+    ensures pairs { (r s : ℕ)
+        → Holds unranked.new.pairs r s
+        ↔ (Holds unranked.old.pairs r s × ((r ≡ p) × HasBit row.now s → ⊥)) }
     ensures table { (r s : ℕ) → r < unranked.old.places → s < unranked.old.states
         → ((r ≡ p) × HasBit row.now s × (rank_in_table ranks.new unranked.old.states r s ≡ Some rank))
         ⊎ (((r ≡ p) × HasBit row.now s → ⊥) × (rank_in_table ranks.new unranked.old.states r s ≡ rank_in_table ranks.old unranked.old.states r s)) }
@@ -71,7 +73,8 @@ fn keep_answered(places: &Auto, p: u32, answered: &[u64], width: usize, row: &mu
     }
 }
 
-/// Gives the rank to the pairs that are ready, and tells whether there are any. `fresh` is made to have them; `row` is room for one row.
+/// Gives the rank to the pairs that are ready, and tells whether there are any. `fresh` is made to
+/// have them; `row` is room for one row.
 fn rank_ready(
     places: &Auto,
     automaton: &Auto,
@@ -93,9 +96,12 @@ fn rank_ready(
     requires answered { length answered.now ≡ length places.now.transitions * width }
     requires fresh { length fresh.old ≡ places.now.states * width }
     requires row { length row.old ≡ width }
-    ensures gives { GivesRank places.now automaton.now (IsReady places.now automaton.now unranked.old answered.now) rank unranked.old ranks.old unranked.new ranks.new fresh.new }
+    ensures gives { GivesRank places.now automaton.now
+        (IsReady places.now automaton.now unranked.old answered.now) rank unranked.old ranks.old
+        unranked.new ranks.new fresh.new }
     ensures some { result ≡ true → length unranked.new.pairs < length unranked.old.pairs }
-    ensures none { result ≡ false → (p q : ℕ) → IsReady places.now automaton.now unranked.old answered.now p q → ⊥ }
+    ensures none { result ≡ false → (p q : ℕ)
+        → IsReady places.now automaton.now unranked.old answered.now p q → ⊥ }
 {
     let mut any = false;
     for p in 0..places.states() {
@@ -125,7 +131,8 @@ fn write_accepting(automaton: &Auto, row: &mut [u64])
     }
 }
 
-/// Gives rank 0 to the unranked pairs whose right state is accepting. `fresh` is made to have them; `row` and `ends` are room for one row.
+/// Gives rank 0 to the unranked pairs whose right state is accepting. `fresh` is made to have them;
+/// `row` and `ends` are room for one row.
 fn rank_accepting(
     places: &Auto,
     automaton: &Auto,
@@ -144,7 +151,9 @@ fn rank_accepting(
     requires fresh { length fresh.old ≡ places.now.states * width }
     requires row { length row.old ≡ width }
     requires ends { length ends.old ≡ width }
-    ensures { GivesRank places.now automaton.now (λ p q. Holds unranked.old.pairs p q × IsAccepting automaton.now q) 0 unranked.old ranks.old unranked.new ranks.new fresh.new }
+    ensures { GivesRank places.now
+        automaton.now (λ p q. Holds unranked.old.pairs p q × IsAccepting automaton.now q) 0
+        unranked.old ranks.old unranked.new ranks.new fresh.new }
 {
     write_accepting(automaton, ends);
     for p in 0..places.states() {
@@ -155,7 +164,8 @@ fn rank_accepting(
     }
 }
 
-/// Notes the answers to the transitions into the place by the states of its row. `made` is room for a row for each letter.
+/// Notes the answers to the transitions into the place by the states of its row. `made` is room for
+/// a row for each letter.
 fn note_answers(
     places: &Auto,
     automaton: &Auto,
@@ -188,7 +198,8 @@ fn note_answers(
     }
 }
 
-/// Notes the answers by the pairs that stand in the rows of `fresh`, place by place. `made` is room for a row for each letter.
+/// Notes the answers by the pairs that stand in the rows of `fresh`, place by place. `made` is room
+/// for a row for each letter.
 fn note_each(
     places: &Auto,
     automaton: &Auto,
@@ -204,7 +215,8 @@ fn note_each(
     requires sets { AreSetsIfAny automaton.now width sets.now }
     requires width { width ≡ (automaton.now.states + 63) / 64 }
     requires fresh { length fresh.now ≡ places.now.states * width }
-    requires columns { (p q : ℕ) → p < places.now.states → q < width * 64 → HasCell fresh.now width p q → q < automaton.now.states }
+    requires columns { (p q : ℕ) → p < places.now.states → q < width * 64
+        → HasCell fresh.now width p q → q < automaton.now.states }
     requires answered { length answered.old ≡ length places.now.transitions * width }
     requires made { length made.old ≡ automaton.now.labels * width }
     ensures { (t q : ℕ) → t < length places.now.transitions → q < width * 64 → HasCell answered.new width t q
@@ -219,8 +231,8 @@ fn note_each(
     }
 }
 
-/// Notes the answers by the pairs that stand in the rows of `fresh`. `made` is room for a row for each letter, `words` and `found` for a
-/// word for each state, and `turned` for 64 rows.
+/// Notes the answers by the pairs that stand in the rows of `fresh`. `made` is room for a row for
+/// each letter, `words` and `found` for a word for each state, and `turned` for 64 rows.
 fn note_fresh(
     places: &Auto,
     automaton: &Auto,
@@ -239,7 +251,8 @@ fn note_fresh(
     requires sets { AreSetsIfAny automaton.now width sets.now }
     requires width { width ≡ (automaton.now.states + 63) / 64 }
     requires fresh { length fresh.now ≡ places.now.states * width }
-    requires columns { (p q : ℕ) → p < places.now.states → q < width * 64 → HasCell fresh.now width p q → q < automaton.now.states }
+    requires columns { (p q : ℕ) → p < places.now.states → q < width * 64
+        → HasCell fresh.now width p q → q < automaton.now.states }
     requires answered { length answered.old ≡ length places.now.transitions * width }
     requires made { length made.old ≡ automaton.now.labels * width }
     requires words { length words.old ≡ automaton.now.states }
@@ -257,8 +270,8 @@ fn note_fresh(
     }
 }
 
-/// Ranks level after level, until a level has no pair. `made` is room for a row for each letter, `row` for one row, `words` and `found` for a
-/// word for each state, and `turned` for 64 rows.
+/// Ranks level after level, until a level has no pair. `made` is room for a row for each letter,
+/// `row` for one row, `words` and `found` for a word for each state, and `turned` for 64 rows.
 fn climb(
     places: &Auto,
     automaton: &Auto,
@@ -288,7 +301,8 @@ fn climb(
     requires words { length words.old ≡ automaton.now.states }
     requires found { length found.old ≡ automaton.now.states }
     requires turned { length turned.old ≡ 64 * width }
-    requires climbed { IsClimbed places.now automaton.now (Holds within.now.pairs) 0 unranked.old ranks.old answered.old fresh.old }
+    requires climbed { IsClimbed places.now automaton.now (Holds within.now.pairs) 0 unranked.old
+        ranks.old answered.old fresh.old }
     ensures { AreLeastRanks places.now automaton.now (Holds within.now.pairs) ranks.new }
 {
     let mut rank = 0;
@@ -304,9 +318,10 @@ fn climb(
     }
 }
 
-/// Writes the least ranks into the table, which has none yet. `unranked` is a copy of the relation, `answered` is room for a row for each
-/// transition, `fresh` for one for each place, `made` for one for each letter, `row` and `ends` for one row, `words` and `found` for a word
-/// for each state, and `turned` for 64 rows.
+/// Writes the least ranks into the table, which has none yet. `unranked` is a copy of the relation,
+/// `answered` is room for a row for each transition, `fresh` for one for each place, `made` for one
+/// for each letter, `row` and `ends` for one row, `words` and `found` for a word for each state,
+/// and `turned` for 64 rows.
 fn rank_within(
     places: &Auto,
     automaton: &Auto,
@@ -354,7 +369,8 @@ fn rank_within(
     );
 }
 
-/// Writes into the table, which has no ranks yet, the least rank of each pair of the relation that can have one.
+/// Writes into the table, which has no ranks yet, the least rank of each pair of the relation that
+/// can have one.
 pub fn least_ranks(
     alloc: Global,
     places: &Auto,
@@ -372,7 +388,8 @@ pub fn least_ranks(
     requires columns { board.now.states ≡ automaton.now.states }
     requires len { length ranks.old ≡ places.now.states * automaton.now.states }
     requires clear { (i : ℕ) → slice_index ranks.old i ≡ 0 }
-    ensures { IfOk result (λ _. AreLeastRanks places.now automaton.now (Holds board.now.pairs) ranks.new) }
+    ensures { IfOk
+        result (λ _. AreLeastRanks places.now automaton.now (Holds board.now.pairs) ranks.new) }
 {
     let width = rows::words_for(automaton.states());
     let mut unranked = board.copied(alloc)?;

@@ -1,4 +1,5 @@
-//! The delayed game of pairs from the states of one automaton, the places, to the states of another: the pairs that are right, with their least ranks.
+//! The delayed game of pairs from the states of one automaton, the places, to the states of
+//! another: the pairs that are right, with their least ranks.
 #![tactic(auto)]
 
 mod before;

@@ -1,4 +1,5 @@
-//! The states from which a move leads into a row of states that lost some, found by those that it lost.
+//! The states from which a move leads into a row of states that lost some, found by those that it
+//! lost.
 
 ghost use Rattle.std.specs.Prelude.{◌≡◌, ◌+◌, ◌*◌, ◌/◌, ◌<◌, ◌≤◌, ◌↔◌, ℕ, false, length, IsTrue};
 ghost use Rattle.auto_core.specs.Automaton.{IsAutomaton, Moves};
@@ -32,7 +33,8 @@ fn leads_to(automaton: &Auto, state: u32, label: u32, ends: &[u64]) -> bool
     false
 }
 
-/// Clears the states from which a move leads to `right` and none by its letter to a state of `ends`, each in the row of the letter.
+/// Clears the states from which a move leads to `right` and none by its letter to a state of
+/// `ends`, each in the row of the letter.
 fn clear_before(automaton: &Auto, right: u32, ends: &[u64], made: &mut [u64], width: usize)
     requires valid { IsAutomaton automaton.now }
     requires state { right < automaton.now.states }
@@ -51,8 +53,8 @@ fn clear_before(automaton: &Auto, right: u32, ends: &[u64], made: &mut [u64], wi
     }
 }
 
-/// Writes into the row of each letter at least the states from which a move by it leads to a state of `ends`, and of those from which one
-/// leads to a state of `lost` no others.
+/// Writes into the row of each letter at least the states from which a move by it leads to a state
+/// of `ends`, and of those from which one leads to a state of `lost` no others.
 pub fn mend_before(automaton: &Auto, lost: &[u64], ends: &[u64], made: &mut [u64], width: usize)
     requires valid { IsAutomaton automaton.now }
     requires width { width ≡ (automaton.now.states + 63) / 64 }
@@ -60,8 +62,10 @@ pub fn mend_before(automaton: &Auto, lost: &[u64], ends: &[u64], made: &mut [u64
     requires lost_len { length lost.now ≡ width }
     requires ends_len { length ends.now ≡ width }
     requires made { length made.old ≡ automaton.now.labels * width }
-    ensures keeps { (a q : ℕ) → a < automaton.now.labels → q < width * 64 → LeadsTo automaton.now a ends.now q → HasCell made.new width a q }
-    ensures clears { (a q r : ℕ) → q < width * 64 → HasCell made.new width a q → HasBit lost.now r → Moves automaton.now q a r → LeadsTo automaton.now a ends.now q }
+    ensures keeps { (a q : ℕ) → a < automaton.now.labels → q < width * 64
+        → LeadsTo automaton.now a ends.now q → HasCell made.new width a q }
+    ensures clears { (a q r : ℕ) → q < width * 64 → HasCell made.new width a q → HasBit lost.now r
+        → Moves automaton.now q a r → LeadsTo automaton.now a ends.now q }
 {
     fill_row(made);
     let mut at = 0;

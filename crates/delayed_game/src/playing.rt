@@ -1,4 +1,5 @@
-//! The delayed game of pairs of places and states: pairs are taken away until what is left is right with its least ranks.
+//! The delayed game of pairs of places and states: pairs are taken away until what is left is right
+//! with its least ranks.
 
 ghost use Rattle.std.specs.Prelude.{◌≡◌, ◌<◌, ◌≤◌, ◌↔◌, ◌+◌, ◌*◌, ◌/◌, ◌^◌, ℕ, length, slice_index, true, false, IfOk};
 ghost use Rattle.auto_core.specs.Automaton.{IsAutomaton};
@@ -44,7 +45,8 @@ fn drop_row(board: &mut Board, ranks: &[u32], p: u32) -> bool
     requires few { board.old.states < 2 ^ 32 }
     requires valid { IsPairing board.old }
     requires len { length ranks.now ≡ board.old.places * board.old.states }
-    ensures { IsFiltered board.old board.new p (λ q. HasSomeRank ranks.now board.old.states p q) result }
+    ensures { IsFiltered board.old board.new p (λ q. HasSomeRank ranks.now board.old.states p q)
+        result }
 {
     let mut changed = false;
     let mut at = 0;
@@ -58,15 +60,16 @@ fn drop_row(board: &mut Board, ranks: &[u32], p: u32) -> bool
     changed
 }
 
-/// Takes away the pairs whose place is accepting and that have no rank, marks the rows that lose pairs, and tells whether there
-/// were any.
+/// Takes away the pairs whose place is accepting and that have no rank, marks the rows that lose
+/// pairs, and tells whether there were any.
 fn drop_unranked(places: &Auto, board: &mut Board, ranks: &[u32], marks: &mut [u64]) -> bool
     requires rows { board.old.places ≡ places.now.states }
     requires few { board.old.states < 2 ^ 32 }
     requires valid { IsPairing board.old }
     requires len { length ranks.now ≡ board.old.places * board.old.states }
     requires marks_len { length marks.old ≡ (places.now.states + 63) / 64 }
-    ensures drops { Drops places.now board.old.states ranks.now board.old board.new marks.old marks.new }
+    ensures drops { Drops places.now board.old.states ranks.now board.old board.new marks.old
+        marks.new }
     ensures some { result ≡ true → length board.new.pairs < length board.old.pairs }
     ensures same { result ≡ false → board.new ≡ board.old }
 {
@@ -86,7 +89,8 @@ fn drop_unranked(places: &Auto, board: &mut Board, ranks: &[u32], marks: &mut [u
 fn has_ranked(board: &Board, ranks: &[u32], p: u32) -> bool
     requires left { p < board.now.places }
     requires len { length ranks.now ≡ board.now.places * board.now.states }
-    ensures { result ≡ true → (q : ℕ) → q < board.now.states → HasSomeRank ranks.now board.now.states p q → Holds board.now.pairs p q }
+    ensures { result ≡ true → (q : ℕ) → q < board.now.states
+        → HasSomeRank ranks.now board.now.states p q → Holds board.now.pairs p q }
 {
     let row = board.row(p);
     for q in 0..board.states() {
@@ -113,8 +117,8 @@ fn has_each_ranked(board: &Board, ranks: &[u32]) -> bool
     true
 }
 
-/// Writes the least ranks of the relation into the table, which has those of a relation that had its pairs and perhaps more: they are the same
-/// where no pair went that has a rank.
+/// Writes the least ranks of the relation into the table, which has those of a relation that had
+/// its pairs and perhaps more: they are the same where no pair went that has a rank.
 fn rank_anew(
     alloc: Global,
     places: &Auto,
@@ -131,7 +135,8 @@ fn rank_anew(
     requires rows { board.now.places ≡ places.now.states }
     requires columns { board.now.states ≡ automaton.now.states }
     requires ranks { HadLeastRanks places.now automaton.now board.now ranks.old }
-    ensures { IfOk result (λ _. AreLeastRanks places.now automaton.now (Holds board.now.pairs) ranks.new) }
+    ensures { IfOk
+        result (λ _. AreLeastRanks places.now automaton.now (Holds board.now.pairs) ranks.new) }
 {
     if has_each_ranked(board, ranks) {
         return Ok(());
@@ -140,8 +145,8 @@ fn rank_anew(
     least_ranks(alloc, places, automaton, sets, board, ranks)
 }
 
-/// Takes pairs away until the relation with its least ranks is right, and writes these ranks into the table, which has none yet. `row`
-/// is room for one row, `made` for a row for each letter.
+/// Takes pairs away until the relation with its least ranks is right, and writes these ranks into
+/// the table, which has none yet. `row` is room for one row, `made` for a row for each letter.
 fn rank_or_drop(
     alloc: Global,
     places: &Auto,
@@ -173,7 +178,8 @@ fn rank_or_drop(
     requires made_len { length made.old ≡ automaton.now.labels * width }
     requires row_len { length row.old ≡ width }
     requires kept { KeptRowsAnswer places.now automaton.now width kept.old tried.old board.old }
-    requires besides { IsAnsweredBesides places.now automaton.now (Holds board.old.pairs) marks.old }
+    requires besides { IsAnsweredBesides places.now automaton.now (Holds board.old.pairs)
+        marks.old }
     ensures { IfOk result (λ _. IsPlayed places.now automaton.now board.old board.new ranks.new) }
 {
     settle(
@@ -189,8 +195,8 @@ fn rank_or_drop(
     Ok(())
 }
 
-/// Takes pairs away until the relation with its least ranks is right, and gives these ranks. `row` is room for one row, `made` for a row
-/// for each letter.
+/// Takes pairs away until the relation with its least ranks is right, and gives these ranks. `row`
+/// is room for one row, `made` for a row for each letter.
 fn ranks_left(
     alloc: Global,
     places: &Auto,
@@ -219,7 +225,8 @@ fn ranks_left(
     requires made_len { length made.old ≡ automaton.now.labels * width }
     requires row_len { length row.old ≡ width }
     requires kept { KeptRowsAnswer places.now automaton.now width kept.old tried.old board.old }
-    requires besides { IsAnsweredBesides places.now automaton.now (Holds board.old.pairs) marks.old }
+    requires besides { IsAnsweredBesides places.now automaton.now (Holds board.old.pairs)
+        marks.old }
     ensures { IfOk result (λ v. IsPlayed places.now automaton.now board.old board.new v.items) }
 {
     let mut ranks = no_ranks(alloc, places.states(), automaton.states())?;
@@ -246,7 +253,8 @@ fn sets_if_many(
     sets_of(alloc, automaton, width)
 }
 
-/// Plays the game: takes pairs away until the relation with its least ranks is right, and gives these ranks.
+/// Plays the game: takes pairs away until the relation with its least ranks is right, and gives
+/// these ranks.
 pub fn play(
     alloc: Global,
     places: &Auto,

@@ -1,4 +1,5 @@
-//! The states before each set of four neighbouring states, in a table: the states before a row of many are found sixteen at a time.
+//! The states before each set of four neighbouring states, in a table: the states before a row of
+//! many are found sixteen at a time.
 
 ghost use Rattle.std.specs.Prelude.{◌≡◌, ◌+◌, ◌*◌, ◌/◌, ◌^◌, ◌<◌, ◌≤◌, ◌↔◌, ◌⊎◌, ◌==◌, ◌||◌, ℕ, true, false, length, IfOk};
 ghost use Rattle.std.specs.Int.{bit_at};
@@ -26,11 +27,14 @@ fn has_digit(number: usize, i: usize) -> bool
     (number >> i) & 1 == 1
 }
 
-/// Tells whether the set with this number has the state at place `i` of its four, which is one of the automaton's.
+/// Tells whether the set with this number has the state at place `i` of its four, which is one of
+/// the automaton's.
 fn is_in_set(automaton: &Auto, number: usize, i: usize) -> bool
     requires place { i < 4 }
-    ensures some { result ≡ true → (bit_at number i ≡ 1) × (number / 16 * 4 + i < automaton.now.states) }
-    ensures none { result ≡ false → bit_at number i ≡ 1 → automaton.now.states ≤ number / 16 * 4 + i }
+    ensures some { result ≡ true
+        → (bit_at number i ≡ 1) × (number / 16 * 4 + i < automaton.now.states) }
+    ensures none { result ≡ false → bit_at number i ≡ 1
+        → automaton.now.states ≤ number / 16 * 4 + i }
 {
     if !has_digit(number, i) {
         return false;
@@ -38,12 +42,15 @@ fn is_in_set(automaton: &Auto, number: usize, i: usize) -> bool
     number / 16 * 4 + i < automaton.states() as usize
 }
 
-/// Marks the states from which a move leads to a state of the set with this number, each in the row of the move's letter.
+/// Marks the states from which a move leads to a state of the set with this number, each in the row
+/// of the move's letter.
 fn mark_set(automaton: &Auto, number: usize, made: &mut [u64], width: usize)
     requires valid { IsAutomaton automaton.now }
     requires room { automaton.now.states ≤ width * 64 }
     requires made { length made.old ≡ automaton.now.labels * width }
-    ensures { (a q : ℕ) → q < width * 64 → HasCell made.new width a q ↔ (HasCell made.old width a q ⊎ LeadsToSet automaton.now number a q) }
+    ensures { (a q : ℕ) → q < width * 64
+        → HasCell made.new width a q
+        ↔ (HasCell made.old width a q ⊎ LeadsToSet automaton.now number a q) }
 {
     for i in 0..4 {
         if is_in_set(automaton, number, i) {
@@ -111,7 +118,8 @@ fn row_of_four<'a>(
     requires ends_len { length ends.now ≡ width }
     requires four { four < width * 16 }
     ensures len { length result.now ≡ automaton.now.labels * width }
-    ensures leads { (a q : ℕ) → q < width * 64 → HasCell result.now width a q ↔ LeadsToFour automaton.now a ends.now four q }
+    ensures leads { (a q : ℕ) → q < width * 64
+        → HasCell result.now width a q ↔ LeadsToFour automaton.now a ends.now four q }
 {
     let set = set_in(ends, four);
     rows::row_at(sets, automaton.labels() as usize * width, four * 16 + set)
@@ -123,15 +131,18 @@ fn or_each_into(into: &mut [u64], first: &[u64], second: &[u64], third: &[u64], 
     requires second { length into.old ≡ length second.now }
     requires third { length into.old ≡ length third.now }
     requires fourth { length into.old ≡ length fourth.now }
-    ensures { (i : ℕ) → bit_of into.new i ≡ ((((bit_of into.old i || bit_of first.now i) || bit_of second.now i) || bit_of third.now i) || bit_of fourth.now i) }
+    ensures { (i : ℕ)
+        → bit_of into.new i
+        ≡ ((((bit_of into.old i || bit_of first.now i) || bit_of second.now i)
+        || bit_of third.now i) || bit_of fourth.now i) }
 {
     for i in 0..into.len() {
         into[i] = into[i] | first[i] | second[i] | third[i] | fourth[i];
     }
 }
 
-/// Marks the states from which a move leads to a state of `ends`, each in the row of the move's letter, by the table of sets, sixteen states
-/// at once.
+/// Marks the states from which a move leads to a state of `ends`, each in the row of the move's
+/// letter, by the table of sets, sixteen states at once.
 fn mark_by_sixteens(automaton: &Auto, sets: &[u64], ends: &[u64], made: &mut [u64], width: usize)
     requires valid { IsAutomaton automaton.now }
     requires width { width ≡ (automaton.now.states + 63) / 64 }
@@ -139,7 +150,9 @@ fn mark_by_sixteens(automaton: &Auto, sets: &[u64], ends: &[u64], made: &mut [u6
     requires ends { (q : ℕ) → HasBit ends.now q → q < automaton.now.states }
     requires ends_len { length ends.now ≡ width }
     requires made { length made.old ≡ automaton.now.labels * width }
-    ensures { (a q : ℕ) → q < width * 64 → HasCell made.new width a q ↔ (HasCell made.old width a q ⊎ LeadsTo automaton.now a ends.now q) }
+    ensures { (a q : ℕ) → q < width * 64
+        → HasCell made.new width a q
+        ↔ (HasCell made.old width a q ⊎ LeadsTo automaton.now a ends.now q) }
 {
     let mut at = 0;
     while let Some(right) = next_bit(ends, at) {
@@ -153,13 +166,14 @@ fn mark_by_sixteens(automaton: &Auto, sets: &[u64], ends: &[u64], made: &mut [u6
     }
 }
 
-/// Tells whether the row has so many states that it is quicker to look at sixteen at once: more in a word than half as many as it has words.
+/// Tells whether the row has so many states that it is quicker to look at sixteen at once: more in
+/// a word than half as many as it has words.
 fn has_many(row: &[u64]) -> bool {
     bits_in(row) / row.len().max(1) > row.len() / 2
 }
 
-/// Marks the states from which a move leads to a state of `ends`, each in the row of the move's letter, by the table of sets
-/// where they are many.
+/// Marks the states from which a move leads to a state of `ends`, each in the row of the move's
+/// letter, by the table of sets where they are many.
 pub fn mark_ends_by(automaton: &Auto, sets: &[u64], ends: &[u64], made: &mut [u64], width: usize)
     requires valid { IsAutomaton automaton.now }
     requires width { width ≡ (automaton.now.states + 63) / 64 }
@@ -167,7 +181,9 @@ pub fn mark_ends_by(automaton: &Auto, sets: &[u64], ends: &[u64], made: &mut [u6
     requires ends { (q : ℕ) → HasBit ends.now q → q < automaton.now.states }
     requires ends_len { length ends.now ≡ width }
     requires made { length made.old ≡ automaton.now.labels * width }
-    ensures { (a q : ℕ) → q < width * 64 → HasCell made.new width a q ↔ (HasCell made.old width a q ⊎ LeadsTo automaton.now a ends.now q) }
+    ensures { (a q : ℕ) → q < width * 64
+        → HasCell made.new width a q
+        ↔ (HasCell made.old width a q ⊎ LeadsTo automaton.now a ends.now q) }
 {
     if has_many(ends) {
         mark_by_sixteens(automaton, sets, ends, made, width);

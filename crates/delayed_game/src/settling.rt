@@ -1,5 +1,5 @@
-//! Taking pairs away until each move of a place is answered by a pair that is left. A place is marked when its row has lost pairs and the
-//! moves to it are not tried again yet.
+//! Taking pairs away until each move of a place is answered by a pair that is left. A place is
+//! marked when its row has lost pairs and the moves to it are not tried again yet.
 
 ghost use Rattle.std.specs.Prelude.{◌≡◌, ◌+◌, ◌*◌, ◌/◌, ◌^◌, ◌<◌, ◌≤◌, ◌↔◌, ℕ, length, true, false};
 ghost use Rattle.auto_core.specs.Automaton.{IsAutomaton, Moves};
@@ -40,7 +40,8 @@ fn write_lost(kept: &[u64], width: usize, to: u32, ends: &[u64], lost: &mut [u64
     requires row { to * width + width ≤ length kept.now }
     requires ends_len { length ends.now ≡ width }
     requires lost_len { length lost.old ≡ width }
-    ensures { (q : ℕ) → q < width * 64 → HasBit lost.new q ↔ (HasCell kept.now width to q × (bit_of ends.now q ≡ false)) }
+    ensures { (q : ℕ) → q < width * 64
+        → HasBit lost.new q ↔ (HasCell kept.now width to q × (bit_of ends.now q ≡ false)) }
 {
     let before = rows::row_at(kept, width, to as usize);
     for j in 0..width {
@@ -59,8 +60,8 @@ fn lost_few(tried: &[u64], to: u32, lost: &[u64], ends: &[u64]) -> bool
     bits_in(lost) < bits_in(ends) / FEW_LOST
 }
 
-/// Writes into the row of each letter by which moves lead to the place the states that answer them, as far as they are related to the
-/// moves' sources. `row` is room for one row.
+/// Writes into the row of each letter by which moves lead to the place the states that answer them,
+/// as far as they are related to the moves' sources. `row` is room for one row.
 fn write_answering(
     places: &Auto,
     automaton: &Auto,
@@ -99,8 +100,9 @@ fn write_answering(
     }
 }
 
-/// Takes away the pairs from whose state no move answers one to this place, marks the places that lose pairs, and tells whether there were
-/// any. `kept` has the rows of the places in `tried` as they were when moves to them were tried last. `row` is room for one row,
+/// Takes away the pairs from whose state no move answers one to this place, marks the places that
+/// lose pairs, and tells whether there were any. `kept` has the rows of the places in `tried` as
+/// they were when moves to them were tried last. `row` is room for one row,
 /// `made` for a row for each letter.
 fn try_into(
     places: &Auto,
@@ -130,10 +132,12 @@ fn try_into(
     requires made_len { length made.old ≡ automaton.now.labels * width }
     requires row_len { length row.old ≡ width }
     requires kept { KeptRowsAnswer places.now automaton.now width kept.old tried.old board.old }
-    requires others { (x : ℕ) → x < places.now.states → ¬ (x ≡ to) → bit_of marks.old x ≡ false → IsAnsweredInto places.now automaton.now (Holds board.old.pairs) x }
+    requires others { (x : ℕ) → x < places.now.states → ¬ (x ≡ to) → bit_of marks.old x ≡ false
+        → IsAnsweredInto places.now automaton.now (Holds board.old.pairs) x }
     ensures kept { KeptRowsAnswer places.now automaton.now width kept.new tried.new board.new }
     ensures tries { Tries places.now automaton.now board.old board.new marks.old marks.new result }
-    ensures answered { IsAnsweredBesides places.now automaton.now (Holds board.new.pairs) marks.new }
+    ensures answered { IsAnsweredBesides places.now automaton.now (Holds board.new.pairs)
+        marks.new }
 {
     let mut any = false;
     write_answering(
@@ -156,8 +160,8 @@ fn try_into(
     any
 }
 
-/// Tries the moves to each marked place, each once, the last place first, and tells whether pairs were taken away. `row` is room for one
-/// row, `made` for a row for each letter.
+/// Tries the moves to each marked place, each once, the last place first, and tells whether pairs
+/// were taken away. `row` is room for one row, `made` for a row for each letter.
 fn pass(
     places: &Auto,
     automaton: &Auto,
@@ -184,7 +188,8 @@ fn pass(
     requires made_len { length made.old ≡ automaton.now.labels * width }
     requires row_len { length row.old ≡ width }
     requires kept { KeptRowsAnswer places.now automaton.now width kept.old tried.old board.old }
-    requires besides { IsAnsweredBesides places.now automaton.now (Holds board.old.pairs) marks.old }
+    requires besides { IsAnsweredBesides places.now automaton.now (Holds board.old.pairs)
+        marks.old }
     ensures kept { KeptRowsAnswer places.now automaton.now width kept.new tried.new board.new }
     ensures takes { TakesAway places.now automaton.now board.old board.new }
     ensures some { result ≡ true → length board.new.pairs < length board.old.pairs }
@@ -205,7 +210,8 @@ fn pass(
     any
 }
 
-/// Takes pairs away until each move of a place is answered, where only moves to marked places need be tried. No mark is left;
+/// Takes pairs away until each move of a place is answered, where only moves to marked places need
+/// be tried. No mark is left;
 /// `row` is room for one row, `made` for a row for each letter.
 pub fn settle(
     places: &Auto,
@@ -233,11 +239,13 @@ pub fn settle(
     requires made_len { length made.old ≡ automaton.now.labels * width }
     requires row_len { length row.old ≡ width }
     requires kept { KeptRowsAnswer places.now automaton.now width kept.old tried.old board.old }
-    requires besides { IsAnsweredBesides places.now automaton.now (Holds board.old.pairs) marks.old }
+    requires besides { IsAnsweredBesides places.now automaton.now (Holds board.old.pairs)
+        marks.old }
     ensures kept { KeptRowsAnswer places.now automaton.now width kept.new tried.new board.new }
     ensures takes { TakesAway places.now automaton.now board.old board.new }
     ensures unmarked { (x : ℕ) → x < places.now.states → bit_of marks.new x ≡ false }
-    ensures answered { (p q : ℕ) → Holds board.new.pairs p q → AnswersAll places.now automaton.now (Holds board.new.pairs) p q }
+    ensures answered { (p q : ℕ) → Holds board.new.pairs p q
+        → AnswersAll places.now automaton.now (Holds board.new.pairs) p q }
 {
     'passes: while pass(
         places, automaton, sets, board, marks, kept, tried, made, width, row,

@@ -28,14 +28,16 @@ IsTripleBefore x y = triple_cmp x y ≡ Less
 abbrev pub AreTriplesInOrder : RankedTriples → Type 0
 AreTriplesInOrder X = AllPairs IsTripleBefore X
 
--- A relation on so many states with `letters` announced letters over so many labels: the list of its triples, each with a rank or without one.
+-- A relation on so many states with `letters` announced letters over so many labels: the list of
+-- its triples, each with a rank or without one.
 pub record Ranking : Type 0 where
   pub states : ℕ
   pub labels : ℕ
   pub letters : ℕ
   pub triples : RankedTriples
 
--- A valid one: one to four letters are announced, the triples are of its states and labels, each has one rank or none, and they ascend.
+-- A valid one: one to four letters are announced, the triples are of its states and labels, each
+-- has one rank or none, and they ascend.
 pub record IsRanking (R : Ranking) : Type 0 where
   pub letters_from : 1 ≤ R.letters
   pub letters_upto : R.letters ≤ 4

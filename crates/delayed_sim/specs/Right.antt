@@ -16,7 +16,9 @@ HasAnswerBelow A X (Some r) c q a p' = IsAnsweredBelow A X r c q a p'
 
 -- q answers it so whatever further letter is announced behind the word b.
 abbrev pub IsAnsweredAhead : Automaton → RankedTriples → Option ℕ → List ℕ → ℕ → ℕ → ℕ → Type 0
-IsAnsweredAhead A X below b q a p' = (more : ℕ) (c : List ℕ) → more < A.labels → Announces b more a c → HasAnswerBelow A X below c q a p'
+IsAnsweredAhead A X below b q a p' =
+    (more : ℕ) (c : List ℕ) → more < A.labels → Announces b more a c
+    → HasAnswerBelow A X below c q a p'
 
 -- q answers each move of p so.
 abbrev pub HasAnswers : Automaton → RankedTriples → Option ℕ → List ℕ → ℕ → ℕ → Type 0

@@ -9,7 +9,13 @@ use Rattle.delayed_sim.specs.Right.{HasAnswers, IsTripleAnswered}
 
 -- The relation without the triple with this number.
 abbrev pub without : Ranking → ℕ → Ranking
-without R at = record { states = R.states; labels = R.labels; letters = R.letters; triples = remove R.triples at }
+without R at =
+    record {
+      states = R.states;
+      labels = R.labels;
+      letters = R.letters;
+      triples = remove R.triples at;
+    }
 
 -- The triple with this rank, or without one.
 abbrev pub ranked_as : Triple → Option ℕ → Triple
@@ -18,12 +24,18 @@ ranked_as t rank = (t.0, t.1, t.2, rank)
 -- The relation where the triple with this number has this rank or none.
 abbrev pub reranked : Ranking → ℕ → Option ℕ → Ranking
 reranked R at rank =
-    record { states = R.states; labels = R.labels; letters = R.letters; triples = set R.triples at (ranked_as (triple_at R.triples at) rank) }
+    record {
+      states = R.states;
+      labels = R.labels;
+      letters = R.letters;
+      triples = set R.triples at (ranked_as (triple_at R.triples at) rank);
+    }
 
 -- The list has the triples of each right list of triples of A.
 abbrev pub HasEachTriple : Automaton → ℕ → RankedTriples → Type 0
 HasEachTriple A n X =
-    (Y : RankedTriples) → AreTriplesOf A.states A.labels n Y → IsRight A Y → (b : List ℕ) (p q : ℕ) → HoldsTriple Y b p q → HoldsTriple X b p q
+    (Y : RankedTriples) → AreTriplesOf A.states A.labels n Y → IsRight A Y → (b : List ℕ) (p q : ℕ)
+    → HoldsTriple Y b p q → HoldsTriple X b p q
 
 -- Where a right list gives a triple a rank of at most r, the list gives it one that is no greater.
 abbrev pub HasRanksUpto : Automaton → ℕ → ℕ → RankedTriples → Type 0
@@ -61,8 +73,10 @@ pub record IsReranked (S : Triple → Option ℕ → Type 0) (upto : ℕ) (old n
       (i : ℕ)
       → i < upto
       → i < length old.triples
-      → (rank : Option ℕ) × S (triple_at old.triples i) rank × (triple_at new.triples i ≡ ranked_as (triple_at old.triples i) rank)
-  pub rest : (i : ℕ) → upto ≤ i → i < length old.triples → triple_at new.triples i ≡ triple_at old.triples i
+      → (rank : Option ℕ) × S (triple_at old.triples i) rank
+      × (triple_at new.triples i ≡ ranked_as (triple_at old.triples i) rank)
+  pub rest : (i : ℕ) → upto ≤ i → i < length old.triples
+      → triple_at new.triples i ≡ triple_at old.triples i
 
 -- The same triples, with whatever ranks.
 pub record HasSameTriples (old new : Ranking) : Type 0 where
@@ -77,7 +91,8 @@ pub record HasSameTriples (old new : Ranking) : Type 0 where
 -- Each rank is right.
 pub record AreRanksRight (A : Automaton) (X : RankedTriples) : Type 0 where
   pub at_zero : (b : List ℕ) (p q : ℕ) → HasRank X b p q 0 → IsAccepting A q
-  pub above_zero : (b : List ℕ) (p q r : ℕ) → HasRank X b p q r → 0 < r → HasAnswers A X (Some r) b p q
+  pub above_zero : (b : List ℕ) (p q r : ℕ) → HasRank X b p q r → 0 < r
+      → HasAnswers A X (Some r) b p q
 
 -- The ranks up to r are given: they are right, and none is too great.
 pub record AreRankedUpto (A : Automaton) (n r : ℕ) (X : RankedTriples) : Type 0 where
@@ -87,9 +102,11 @@ pub record AreRankedUpto (A : Automaton) (n r : ℕ) (X : RankedTriples) : Type 
 
 -- Rank 0 goes to the triples with an accepting right state, and no rank to the others.
 abbrev pub GetsRankZero : Automaton → Triple → Option ℕ → Type 0
-GetsRankZero A t rank = (IsAccepting A t.2 × (rank ≡ Some 0)) ⊎ ((IsAccepting A t.2 → ⊥) × (rank ≡ None))
+GetsRankZero A t rank =
+    (IsAccepting A t.2 × (rank ≡ Some 0)) ⊎ ((IsAccepting A t.2 → ⊥) × (rank ≡ None))
 
--- The rank r goes to the triples that have none and whose moves are answered by triples of lesser rank; the others keep what they have.
+-- The rank r goes to the triples that have none and whose moves are answered by triples of lesser
+-- rank; the others keep what they have.
 abbrev pub GetsRank : Automaton → RankedTriples → ℕ → Triple → Option ℕ → Type 0
 GetsRank A X r t rank =
     ((t.3 ≡ None) × IsTripleAnswered A X (Some r) t × (rank ≡ Some r))

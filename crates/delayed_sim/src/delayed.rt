@@ -29,8 +29,9 @@ pub struct RankedTriple {
     pub rank: Option<u32>,
 }
 
-/// A relation of triples some of which have a rank. Contracts see it as a `Ranking`: the numbers of states, labels and announced letters,
-/// and the list of the triples with their ranks, in order. It holds the listed triples alone.
+/// A relation of triples some of which have a rank. Contracts see it as a `Ranking`: the numbers of
+/// states, labels and announced letters, and the list of the triples with their ranks, in order. It
+/// holds the listed triples alone.
 #[derive(Debug, Drop)]
 pub struct Delayed {
     pub(crate) states: u32,
@@ -224,13 +225,17 @@ impl Delayed {
         self.entries[at] = entry;
     }
 
-    /// The number past the last triple with the left state and the word of the triple with this number.
+    /// The number past the last triple with the left state and the word of the triple with this
+    /// number.
     pub fn row_end(&self, at: usize) -> usize
         requires { at < length self.now.triples }
         ensures onward { at < result }
         ensures within { result ≤ length self.now.triples }
-        ensures same { (i : ℕ) → at ≤ i → i < result → row_key (triple_at self.now.triples i) ≡ row_key (triple_at self.now.triples at) }
-        ensures next { result < length self.now.triples → slice_cmp nat_cmp (row_key (triple_at self.now.triples at)) (row_key (triple_at self.now.triples result)) ≡ Less }
+        ensures same { (i : ℕ) → at ≤ i → i < result
+            → row_key (triple_at self.now.triples i) ≡ row_key (triple_at self.now.triples at) }
+        ensures next { result < length self.now.triples
+            → slice_cmp nat_cmp (row_key (triple_at self.now.triples at))
+            (row_key (triple_at self.now.triples result)) ≡ Less }
         ensures valid { IsRanking self.now }
     {
         entries::row_end(&self.entries, self.letters, at)

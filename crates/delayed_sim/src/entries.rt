@@ -8,7 +8,8 @@ ghost use Rattle.delayed_sim.specs.Stored.{triple_of, entry_triples, no_entry, I
 use auto_core::Memory;
 use std::cmp::Ordering;
 
-/// A triple with its rank, if it has one. The first letters of `ahead` are the word, one fewer than are announced.
+/// A triple with its rank, if it has one. The first letters of `ahead` are the word, one fewer than
+/// are announced.
 #[derive(Clone, Copy, Debug)]
 pub(crate) struct Entry {
     /// The left state.
@@ -64,7 +65,8 @@ fn search(
     requires upto { letters ≤ 4 }
     requires in_order { AreTriplesInOrder (entry_triples letters entries.now) }
     ensures found { IfOk result (IsTripleAt letters entries.now left ahead.now right) }
-    ensures gap { IfErr result (λ i. IsBetween letters entries.now (left, ahead.now, right, None) i i) }
+    ensures gap { IfErr
+        result (λ i. IsBetween letters entries.now (left, ahead.now, right, None) i i) }
 {
     let mut low = 0;
     let mut high = entries.len();
@@ -83,7 +85,8 @@ fn search(
 fn is_before(entry: &Entry, letters: u32, left: u32, ahead: &[u32], right: u32) -> bool
     requires from { 1 ≤ letters }
     requires upto { letters ≤ 4 }
-    ensures { IsTrue result ↔ triple_cmp (triple_of letters entry.now) (left, ahead.now, right, None) ≡ Less }
+    ensures { IsTrue result
+        ↔ triple_cmp (triple_of letters entry.now) (left, ahead.now, right, None) ≡ Less }
 {
     match compare(entry, letters, left, ahead, right) {
         Ordering::Less => true,
@@ -134,7 +137,8 @@ fn is_at(entries: &[Entry], letters: u32, at: usize, left: u32, ahead: &[u32], r
     }
 }
 
-/// The number that the entry has where words are empty and each pair of states has its entry; in general, one to be tried first.
+/// The number that the entry has where words are empty and each pair of states has its entry; in
+/// general, one to be tried first.
 fn number_among_all(entries: &[Entry], left: u32, right: u32) -> usize {
     if entries.is_empty() {
         return 0;
@@ -155,7 +159,9 @@ pub(crate) fn find(
     requires upto { letters ≤ 4 }
     requires in_order { AreTriplesInOrder (entry_triples letters entries.now) }
     ensures found { IfSome result (IsTripleAt letters entries.now left ahead.now right) }
-    ensures none { IfNone result ((rank : Option ℕ) → Contains (entry_triples letters entries.now) (left, ahead.now, right, rank) → ⊥) }
+    ensures none { IfNone result
+        ((rank : Option ℕ)
+        → Contains (entry_triples letters entries.now) (left, ahead.now, right, rank) → ⊥) }
 {
     let first = number_among_all(entries, left, right);
     if is_at(entries, letters, first, left, ahead, right) {
@@ -172,7 +178,9 @@ fn is_behind_all(entries: &[Entry], letters: u32, entry: &Entry) -> bool
     requires from { 1 ≤ letters }
     requires upto { letters ≤ 4 }
     requires in_order { AreTriplesInOrder (entry_triples letters entries.now) }
-    ensures { IsTrue result → IsBetween letters entries.now (triple_of letters entry.now) (length entries.now) (length entries.now) }
+    ensures { IsTrue result
+        → IsBetween letters entries.now (triple_of letters entry.now) (length entries.now)
+        (length entries.now) }
 {
     if entries.is_empty() {
         return true;
@@ -191,7 +199,9 @@ pub(crate) fn put_in(entries: &mut Vec<Entry>, letters: u32, entry: Entry) -> Re
     requires from { 1 ≤ letters }
     requires upto { letters ≤ 4 }
     requires in_order { AreTriplesInOrder (entry_triples letters entries.old.items) }
-    requires lacks { (rank : Option ℕ) → Contains (entry_triples letters entries.old.items) (entry.left, (triple_of letters entry).1, entry.right, rank) → ⊥ }
+    requires lacks { (rank : Option ℕ)
+        → Contains (entry_triples letters entries.old.items)
+        (entry.left, (triple_of letters entry).1, entry.right, rank) → ⊥ }
     ensures { IfOk result (λ _. IsPutIn letters entries.old.items entries.new.items entry) }
 {
     if is_behind_all(entries, letters, &entry) {
@@ -229,7 +239,8 @@ pub(crate) fn padded(ahead: &[u32]) -> [u32; 3]
 fn is_of_row(entry: &Entry, other: &Entry, letters: u32) -> bool
     requires from { 1 ≤ letters }
     requires upto { letters ≤ 4 }
-    ensures { IsTrue result ↔ (row_key (triple_of letters entry.now) ≡ row_key (triple_of letters other.now)) }
+    ensures { IsTrue result
+        ↔ (row_key (triple_of letters entry.now) ≡ row_key (triple_of letters other.now)) }
 {
     entry.left == other.left && ahead_of(entry, letters) == ahead_of(other, letters)
 }
@@ -241,8 +252,12 @@ pub(crate) fn row_end(entries: &[Entry], letters: u32, at: usize) -> usize
     requires inside { at < length entries.now }
     ensures onward { at < result }
     ensures within { result ≤ length entries.now }
-    ensures same { (i : ℕ) → at ≤ i → i < result → row_key (triple_of letters (slice_index_or entries.now i no_entry)) ≡ row_key (triple_of letters (slice_index_or entries.now at no_entry)) }
-    ensures other { result < length entries.now → ¬ (row_key (triple_of letters (slice_index_or entries.now result no_entry)) ≡ row_key (triple_of letters (slice_index_or entries.now at no_entry))) }
+    ensures same { (i : ℕ) → at ≤ i → i < result
+        → row_key (triple_of letters (slice_index_or entries.now i no_entry))
+        ≡ row_key (triple_of letters (slice_index_or entries.now at no_entry)) }
+    ensures other { result < length entries.now
+        → ¬ (row_key (triple_of letters (slice_index_or entries.now result no_entry))
+        ≡ row_key (triple_of letters (slice_index_or entries.now at no_entry))) }
 {
     for end in at + 1..entries.len() {
         if !is_of_row(&entries[end], &entries[at], letters) {

@@ -26,7 +26,8 @@ fn fill_row(rel: &mut Rel, p: u32)
     requires valid { IsRelation rel.old }
     ensures size { rel.new.size ≡ rel.old.size }
     ensures valid { IsRelation rel.new }
-    ensures pairs { (r q : ℕ) → Holds rel.new.pairs r q ↔ (Holds rel.old.pairs r q ⊎ ((r ≡ p) × (q < rel.old.size))) }
+    ensures pairs { (r q : ℕ)
+        → Holds rel.new.pairs r q ↔ (Holds rel.old.pairs r q ⊎ ((r ≡ p) × (q < rel.old.size))) }
 {
     for q in 0..rel.size() {
         rel.set(p, q);
@@ -45,7 +46,8 @@ fn all_pairs(alloc: Global, n: u32) -> Result<Rel, Memory>
     Ok(rel)
 }
 
-/// What is left of the game of the places, which begins with the pairs of `first`, whatever the word.
+/// What is left of the game of the places, which begins with the pairs of `first`, whatever the
+/// word.
 fn greatest_within(
     alloc: Global,
     places: &Auto,
@@ -61,7 +63,8 @@ fn greatest_within(
     requires word_count { automaton.now.labels ^ (letters - 1) < 2 ^ 32 }
     requires few { places.now.states * automaton.now.states + 2 < 2 ^ 32 }
     requires equal { first.now.size ≡ automaton.now.states }
-    requires first { HasEachRight places.now automaton.now (λ x q. Holds first.now.pairs (x / automaton.now.labels ^ (letters - 1)) q) }
+    requires first { HasEachRight places.now
+        automaton.now (λ x q. Holds first.now.pairs (x / automaton.now.labels ^ (letters - 1)) q) }
     ensures states { IfOk result (λ d. d.states ≡ automaton.now.states) }
     ensures labels { IfOk result (λ d. d.labels ≡ automaton.now.labels) }
     ensures letters { IfOk result (λ d. d.letters ≡ letters) }
@@ -80,7 +83,8 @@ fn greatest_within(
     })
 }
 
-/// The greatest delayed relation with one announced letter. It is sought inside the bound by short words.
+/// The greatest delayed relation with one announced letter. It is sought inside the bound by short
+/// words.
 fn greatest_by_pairs(alloc: Global, automaton: &Auto) -> Result<Delayed, Memory>
     requires few { automaton.now.states ≤ 65535 }
     requires valid { IsAutomaton automaton.now }
@@ -111,8 +115,8 @@ fn greatest_ahead(alloc: Global, automaton: &Auto, letters: u32) -> Result<Delay
     greatest_within(alloc, &places, automaton, &first, letters)
 }
 
-/// The greatest delayed relation with so many announced letters on the automaton's states, with the least ranks. (Clemente and Mayr, delayed
-/// simulation.)
+/// The greatest delayed relation with so many announced letters on the automaton's states, with the
+/// least ranks. (Clemente and Mayr, delayed simulation.)
 pub fn greatest(alloc: Global, automaton: &Auto, letters: u32) -> Result<Delayed, Memory>
     requires from { 1 ≤ letters }
     requires upto { letters ≤ 4 }

@@ -6,7 +6,8 @@ ghost use Rattle.auto_core.specs.Delayed.{are_few_triples_with_a_letter, letters
 
 use auto_core::{Auto, MOST_TRIPLES_WITH_A_LETTER};
 
-/// Tells whether with so many announced letters there are at most as many triples, each with one further letter, as a game with more than one letter may have.
+/// Tells whether with so many announced letters there are at most as many triples, each with one
+/// further letter, as a game with more than one letter may have.
 fn are_few_triples_with_a_letter(automaton: &Auto, letters: u32) -> bool
     requires { 0 < automaton.now.labels }
     ensures { result ≡ are_few_triples_with_a_letter automaton.now letters }
@@ -23,7 +24,8 @@ fn are_few_triples_with_a_letter(automaton: &Auto, letters: u32) -> bool
     count <= MOST_TRIPLES_WITH_A_LETTER
 }
 
-/// How many letters are announced on the automaton where `asked` are asked for: fewer where there would be too many triples.
+/// How many letters are announced on the automaton where `asked` are asked for: fewer where there
+/// would be too many triples.
 pub fn letters_for(automaton: &Auto, asked: u32) -> u32
     requires from { 1 ≤ asked }
     requires upto { asked ≤ 4 }

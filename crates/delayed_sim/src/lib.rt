@@ -1,4 +1,5 @@
-//! Delayed simulation with announced letters and ranks: the relation, the test whether one is right, and the greatest one.
+//! Delayed simulation with announced letters and ranks: the relation, the test whether one is
+//! right, and the greatest one.
 #![tactic(auto)]
 
 mod delayed;

@@ -13,7 +13,8 @@ use delayed_game::{Board, pair_number};
 use row_steps::next_bit;
 use std::alloc::Global;
 
-/// The rank for which this number stands, in a table or in a certificate: one less, and none where it is 0.
+/// The rank for which this number stands, in a table or in a certificate: one less, and none where
+/// it is 0.
 pub fn rank_in_code(code: u32) -> Option<u32>
     ensures { result ≡ rank_in_code code }
 {
@@ -42,9 +43,14 @@ fn push_row(
     requires fits { labels ^ (letters - 1) < 2 ^ 32 }
     requires words { board.now.places ≡ board.now.states * labels ^ (letters - 1) }
     requires state { left ≡ x / labels ^ (letters - 1) }
-    requires word { take (letters - 1) ahead ≡ digits labels (letters - 1) (x % labels ^ (letters - 1)) }
-    requires listed { ListsTriplesBefore labels letters board.now ranks.now x 0 (entry_triples letters entries.old.items) }
-    ensures { IfOk result (λ _. ListsTriplesBefore labels letters board.now ranks.now (x + 1) 0 (entry_triples letters entries.new.items)) }
+    requires word { take (letters - 1) ahead
+        ≡ digits labels (letters - 1) (x % labels ^ (letters - 1)) }
+    requires listed { ListsTriplesBefore labels letters board.now ranks.now x 0
+        (entry_triples letters entries.old.items) }
+    ensures { IfOk
+        result (λ _.
+        ListsTriplesBefore labels letters board.now ranks.now (x + 1) 0
+        (entry_triples letters entries.new.items)) }
 {
     let mut at = 0;
     while let Some(q) = next_bit(board.row(x), at) {
@@ -75,7 +81,10 @@ pub(crate) fn entries_of(
     requires valid { IsPairing board.now }
     requires fits { labels ^ (letters - 1) < 2 ^ 32 }
     requires words { board.now.places ≡ board.now.states * labels ^ (letters - 1) }
-    ensures { IfOk result (λ v. ListsTriplesBefore labels letters board.now ranks.now board.now.places 0 (entry_triples letters v.items)) }
+    ensures { IfOk
+        result (λ v.
+        ListsTriplesBefore labels letters board.now ranks.now board.now.places 0
+        (entry_triples letters v.items)) }
 {
     let words = word_count(labels, letters - 1);
     let mut entries = Vec::with_capacity(alloc, board.room())?;

@@ -33,7 +33,9 @@ fn steps_of(alloc: Global, automaton: &Auto, words: u32) -> Result<Vec<Trans>, M
     requires places { automaton.now.states * words < 2 ^ 32 }
     requires letters { automaton.now.labels * words < 2 ^ 32 }
     requires few { length automaton.now.transitions * words < 2 ^ 32 }
-    ensures steps { IfOk result (λ v. AreSteps automaton.now words v.items (length automaton.now.transitions * words)) }
+    ensures steps { IfOk
+        result (λ v.
+        AreSteps automaton.now words v.items (length automaton.now.transitions * words)) }
 {
     let labels = automaton.labels();
     let per = words as usize;
@@ -49,7 +51,9 @@ fn steps_of(alloc: Global, automaton: &Auto, words: u32) -> Result<Vec<Trans>, M
 fn accepting_places(alloc: Global, automaton: &Auto, words: u32) -> Result<Vec<u32>, Memory>
     requires some { 0 < words }
     requires places { automaton.now.states * words < 2 ^ 32 }
-    ensures { IfOk result (λ v. AreAcceptingPlaces automaton.now words v.items (automaton.now.states * words)) }
+    ensures { IfOk
+        result (λ v.
+        AreAcceptingPlaces automaton.now words v.items (automaton.now.states * words)) }
 {
     let mut accepting = Vec::new(alloc);
     for x in 0..automaton.states() * words {

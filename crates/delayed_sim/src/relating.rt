@@ -19,7 +19,8 @@ fn mark_row(delayed: &Delayed, p: u32, ahead: &[u32], row: &mut [u64])
     requires left { p < delayed.now.states }
     requires len { length row.old ≡ (delayed.now.states + 63) / 64 }
     requires valid { IsRanking delayed.now }
-    ensures { (q : ℕ) → HasBit row.new q ↔ (HasBit row.old q ⊎ HoldsTriple delayed.now.triples ahead.now p q) }
+    ensures { (q : ℕ)
+        → HasBit row.new q ↔ (HasBit row.old q ⊎ HoldsTriple delayed.now.triples ahead.now p q) }
 {
     let begin = delayed.first_from(p, ahead, 0);
     let end = delayed.first_from(p, ahead, delayed.states());
@@ -28,8 +29,8 @@ fn mark_row(delayed: &Delayed, p: u32, ahead: &[u32], row: &mut [u64])
     }
 }
 
-/// Takes from the row the states with which the left state has not each triple whose word begins with the first letters of this one. `spare`
-/// is room for one row.
+/// Takes from the row the states with which the left state has not each triple whose word begins
+/// with the first letters of this one. `spare` is room for one row.
 fn keep_each(
     delayed: &Delayed,
     p: u32,
@@ -45,7 +46,8 @@ fn keep_each(
     requires row { length row.old ≡ (delayed.now.states + 63) / 64 }
     requires spare { length spare.old ≡ (delayed.now.states + 63) / 64 }
     requires valid { IsRanking delayed.now }
-    ensures { (q : ℕ) → HasBit row.new q ↔ (HasBit row.old q × HoldsEach delayed.now (take chosen word) p q) }
+    ensures { (q : ℕ)
+        → HasBit row.new q ↔ (HasBit row.old q × HoldsEach delayed.now (take chosen word) p q) }
 {
     if chosen + 1 == delayed.letters() {
         rows::clear_row(spare);
@@ -60,7 +62,8 @@ fn keep_each(
     }
 }
 
-/// Relates the state to those to which it is related whatever the word. `row` and `spare` are room for one row.
+/// Relates the state to those to which it is related whatever the word. `row` and `spare` are room
+/// for one row.
 fn relate_row(delayed: &Delayed, p: u32, related: &mut Rel, row: &mut [u64], spare: &mut [u64])
     requires equal { related.old.size ≡ delayed.now.states }
     requires left { p < delayed.now.states }
@@ -87,14 +90,18 @@ fn relate_triples(delayed: &Delayed, related: &mut Rel)
     requires none { related.old.pairs ≡ [] }
     requires valid { IsRanking delayed.now }
     ensures size { related.new.size ≡ related.old.size }
-    ensures pairs { (p q : ℕ) → Holds related.new.pairs p q ↔ ((p < delayed.now.states) × (q < delayed.now.states) × AreStateRelated delayed.now.labels 1 delayed.now.triples p q) }
+    ensures pairs { (p q : ℕ)
+        → Holds related.new.pairs p q
+        ↔ ((p < delayed.now.states) × (q < delayed.now.states)
+        × AreStateRelated delayed.now.labels 1 delayed.now.triples p q) }
 {
     for at in 0..delayed.count() {
         related.set(delayed.left(at), delayed.right(at));
     }
 }
 
-/// The state relation. With one announced letter it has the pairs of the triples; with more of them, each word is asked for.
+/// The state relation. With one announced letter it has the pairs of the triples; with more of
+/// them, each word is asked for.
 pub(crate) fn relation_of(alloc: Global, delayed: &Delayed) -> Result<Rel, Memory>
     ensures size { IfOk result (λ r. r.size ≡ delayed.now.states) }
     ensures pairs { IfOk result (λ r. (p q : ℕ) → Holds r.pairs p q

@@ -35,8 +35,8 @@ fn suits(delayed: &Delayed, p: u32, ahead: &[u32], q: u32, below: Option<u32>) -
     }
 }
 
-/// Tells whether the state answers the move, after which the word is this one, with a triple of the relation, of a rank below this
-/// one if one is given.
+/// Tells whether the state answers the move, after which the word is this one, with a triple of the
+/// relation, of a rank below this one if one is given.
 fn is_answered(
     automaton: &Auto,
     delayed: &Delayed,
@@ -49,7 +49,9 @@ fn is_answered(
     requires state { q < automaton.now.states }
     requires target { step.target < automaton.now.states }
     requires letters { IsTripleWord delayed.now.labels delayed.now.letters ahead.now }
-    ensures { IsTrue result ↔ HasAnswerBelow automaton.now delayed.now.triples below ahead.now q step.label step.target }
+    ensures { IsTrue result
+        ↔ HasAnswerBelow automaton.now delayed.now.triples below ahead.now q step.label
+        step.target }
 {
     let span = automaton.successors(q, step.label);
     for u in span.begin..span.end {
@@ -85,7 +87,8 @@ fn next_ahead(ahead: &[u32], more: u32) -> [u32; 3]
     next
 }
 
-/// Tells whether the state answers the move whatever further letter is announced, with triples of a rank below this one if one is given.
+/// Tells whether the state answers the move whatever further letter is announced, with triples of a
+/// rank below this one if one is given.
 fn is_answered_ahead(
     automaton: &Auto,
     delayed: &Delayed,
@@ -103,7 +106,9 @@ fn is_answered_ahead(
     requires some { 0 < length ahead.now }
     requires short { length ahead.now ≤ 3 }
     requires first { slice_index ahead.now 0 ≡ step.label }
-    ensures { IsTrue result ↔ IsAnsweredAhead automaton.now delayed.now.triples below ahead.now q step.label step.target }
+    ensures { IsTrue result
+        ↔ IsAnsweredAhead automaton.now delayed.now.triples below ahead.now q step.label
+        step.target }
 {
     for more in 0..automaton.labels() {
         let next = next_ahead(ahead, more);
@@ -114,8 +119,8 @@ fn is_answered_ahead(
     true
 }
 
-/// Tells whether the state answers the move of another one with this word, if the word allows it: at once where the word is empty, and
-/// otherwise whatever further letter is announced.
+/// Tells whether the state answers the move of another one with this word, if the word allows it:
+/// at once where the word is empty, and otherwise whatever further letter is announced.
 fn answers_move(
     automaton: &Auto,
     delayed: &Delayed,
@@ -131,7 +136,9 @@ fn answers_move(
     requires label { step.label < automaton.now.labels }
     requires letters { IsTripleWord delayed.now.labels delayed.now.letters ahead.now }
     requires short { length ahead.now ≤ 3 }
-    ensures { IsTrue result ↔ IsAnsweredAhead automaton.now delayed.now.triples below ahead.now q step.label step.target }
+    ensures { IsTrue result
+        ↔ IsAnsweredAhead automaton.now delayed.now.triples below ahead.now q step.label
+        step.target }
 {
     if ahead.is_empty() {
         return is_answered(automaton, delayed, q, step, ahead, below);
@@ -142,8 +149,8 @@ fn answers_move(
     is_answered_ahead(automaton, delayed, q, step, ahead, below)
 }
 
-/// Tells whether the right state answers each move of the left one with this word, with triples of a rank below this one if one is
-/// given.
+/// Tells whether the right state answers each move of the left one with this word, with triples of
+/// a rank below this one if one is given.
 fn has_answers(
     automaton: &Auto,
     delayed: &Delayed,
@@ -170,12 +177,15 @@ fn has_answers(
     true
 }
 
-/// Tells whether the moves of the triple with this number are answered, by triples of a rank below this one if one is given.
+/// Tells whether the moves of the triple with this number are answered, by triples of a rank below
+/// this one if one is given.
 pub fn is_answered_at(automaton: &Auto, delayed: &Delayed, at: usize, below: Option<u32>) -> bool
     requires equal { delayed.now.states ≡ automaton.now.states }
     requires same { delayed.now.labels ≡ automaton.now.labels }
     requires inside { at < length delayed.now.triples }
-    ensures { IsTrue result ↔ IsTripleAnswered automaton.now delayed.now.triples below (triple_at delayed.now.triples at) }
+    ensures { IsTrue result
+        ↔ IsTripleAnswered automaton.now delayed.now.triples below
+        (triple_at delayed.now.triples at) }
 {
     has_answers(
         automaton,
@@ -192,7 +202,8 @@ fn is_right(automaton: &Auto, delayed: &Delayed, at: usize) -> bool
     requires equal { delayed.now.states ≡ automaton.now.states }
     requires same { delayed.now.labels ≡ automaton.now.labels }
     requires inside { at < length delayed.now.triples }
-    ensures { IsTrue result ↔ IsTripleRight automaton.now delayed.now.triples (triple_at delayed.now.triples at) }
+    ensures { IsTrue result
+        ↔ IsTripleRight automaton.now delayed.now.triples (triple_at delayed.now.triples at) }
 {
     let p = delayed.left(at);
     let q = delayed.right(at);

@@ -1,4 +1,5 @@
-//! The greatest delayed relation by a plain program: passes over all triples, which drop what cannot be held and rank what can be ranked.
+//! The greatest delayed relation by a plain program: passes over all triples, which drop what
+//! cannot be held and rank what can be ranked.
 
 ghost use Rattle.std.specs.Prelude.{◌≡◌, ◌+◌, ◌-◌, ◌*◌, ◌^◌, ◌<◌, ◌≤◌, ◌↔◌, ℕ, List, Option, length, true, false, IsTrue, IfOk};
 ghost use Rattle.auto_core.specs.Automaton.{IsAutomaton};
@@ -21,13 +22,17 @@ fn all_triples(alloc: Global, automaton: &Auto, letters: u32) -> Result<Delayed,
     requires words { 0 < automaton.now.labels ^ (letters - 1) }
     requires word_count { automaton.now.labels ^ (letters - 1) < 2 ^ 32 }
     requires places { automaton.now.states * automaton.now.labels ^ (letters - 1) < 2 ^ 32 }
-    requires few { automaton.now.states * automaton.now.labels ^ (letters - 1) * automaton.now.states + 1 < 2 ^ 32 }
+    requires few { automaton.now.states * automaton.now.labels ^ (letters - 1)
+        * automaton.now.states + 1 < 2 ^ 32 }
     ensures states { IfOk result (λ d. d.states ≡ automaton.now.states) }
     ensures labels { IfOk result (λ d. d.labels ≡ automaton.now.labels) }
     ensures letters { IfOk result (λ d. d.letters ≡ letters) }
     ensures valid { IfOk result IsRanking }
     ensures few { IfOk result (λ d. length d.triples + 1 < 2 ^ 32) }
-    ensures all { IfOk result (λ d. (b : List ℕ) (p q : ℕ) → IsTripleWord automaton.now.labels letters b → p < automaton.now.states → q < automaton.now.states → HoldsTriple d.triples b p q) }
+    ensures all { IfOk
+        result (λ d.
+        (b : List ℕ) (p q : ℕ) → IsTripleWord automaton.now.labels letters b
+        → p < automaton.now.states → q < automaton.now.states → HoldsTriple d.triples b p q) }
 {
     let states = automaton.states();
     let labels = automaton.labels();
@@ -90,7 +95,8 @@ fn settle(automaton: &Auto, delayed: &mut Delayed)
 fn rank_accepting(automaton: &Auto, delayed: &mut Delayed)
     requires equal { delayed.old.states ≡ automaton.now.states }
     requires valid { IsRanking delayed.old }
-    ensures { IsReranked (GetsRankZero automaton.now) (length delayed.old.triples) delayed.old delayed.new }
+    ensures { IsReranked (GetsRankZero automaton.now) (length delayed.old.triples) delayed.old
+        delayed.new }
 {
     for at in 0..delayed.count() {
         if automaton.accepting(delayed.right(at)) {
@@ -101,13 +107,14 @@ fn rank_accepting(automaton: &Auto, delayed: &mut Delayed)
     }
 }
 
-/// One pass: gives the rank to each triple that has none and whose moves are answered by triples of lesser rank, and tells whether
-/// there were any.
+/// One pass: gives the rank to each triple that has none and whose moves are answered by triples of
+/// lesser rank, and tells whether there were any.
 fn rank_next(automaton: &Auto, delayed: &mut Delayed, rank: u32) -> bool
     requires equal { delayed.old.states ≡ automaton.now.states }
     requires same { delayed.old.labels ≡ automaton.now.labels }
     requires valid { IsRanking delayed.old }
-    ensures ranks { IsReranked (GetsRank automaton.now delayed.old.triples rank) (length delayed.old.triples) delayed.old delayed.new }
+    ensures ranks { IsReranked (GetsRank automaton.now delayed.old.triples rank)
+        (length delayed.old.triples) delayed.old delayed.new }
     ensures some { result ≡ true → unranked delayed.new.triples < unranked delayed.old.triples }
     ensures none { result ≡ false → delayed.new ≡ delayed.old }
 {
@@ -141,12 +148,14 @@ fn rank_all(automaton: &Auto, delayed: &mut Delayed)
     }
 }
 
-/// Drops each triple without a rank whose left state is accepting, and tells whether there were any.
+/// Drops each triple without a rank whose left state is accepting, and tells whether there were
+/// any.
 fn drop_unranked(automaton: &Auto, delayed: &mut Delayed) -> bool
     requires equal { delayed.old.states ≡ automaton.now.states }
     requires valid { IsRanking delayed.old }
     requires each { HasEachTriple automaton.now delayed.old.letters delayed.old.triples }
-    requires least { (r : ℕ) → HasRanksUpto automaton.now delayed.old.letters r delayed.old.triples }
+    requires least { (r : ℕ)
+        → HasRanksUpto automaton.now delayed.old.letters r delayed.old.triples }
     ensures thins { Thins delayed.old delayed.new result }
     ensures each { HasEachTriple automaton.now delayed.new.letters delayed.new.triples }
     ensures ranked { result ≡ false → AreAcceptingRanked automaton.now delayed.new.triples }
@@ -164,7 +173,8 @@ fn drop_unranked(automaton: &Auto, delayed: &mut Delayed) -> bool
     any
 }
 
-/// Drops triples until their moves are answered, ranks them, drops those that need a rank and have none, and tells whether there were any.
+/// Drops triples until their moves are answered, ranks them, drops those that need a rank and have
+/// none, and tells whether there were any.
 fn settle_and_rank(automaton: &Auto, delayed: &mut Delayed) -> bool
     requires equal { delayed.old.states ≡ automaton.now.states }
     requires same { delayed.old.labels ≡ automaton.now.labels }
@@ -174,14 +184,16 @@ fn settle_and_rank(automaton: &Auto, delayed: &mut Delayed) -> bool
     ensures shortened { IsShortened delayed.old delayed.new }
     ensures some { result ≡ true → length delayed.new.triples < length delayed.old.triples }
     ensures each { HasEachTriple automaton.now delayed.new.letters delayed.new.triples }
-    ensures greatest { result ≡ false → IsGreatestDelayed automaton.now delayed.new.letters delayed.new.triples }
+    ensures greatest { result ≡ false
+        → IsGreatestDelayed automaton.now delayed.new.letters delayed.new.triples }
 {
     settle(automaton, delayed);
     rank_all(automaton, delayed);
     drop_unranked(automaton, delayed)
 }
 
-/// The same relation as `greatest` by a plain program: passes over all triples until one drops none.
+/// The same relation as `greatest` by a plain program: passes over all triples until one drops
+/// none.
 pub fn greatest_by_rounds(alloc: Global, automaton: &Auto, letters: u32) -> Result<Delayed, Memory>
     requires from { 1 ≤ letters }
     requires upto { letters ≤ 4 }

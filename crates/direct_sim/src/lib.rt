@@ -1,4 +1,5 @@
-//! Forward simulation with lookahead: the greatest relation, its closure, and what they say of paths.
+//! Forward simulation with lookahead: the greatest relation, its closure, and what they say of
+//! paths.
 #![tactic(auto)]
 
 pub mod laws;

@@ -10,7 +10,8 @@ use bit_rel::Rel;
 use look_round::Forward;
 use std::alloc::Global;
 
-/// The greatest forward relation on the automaton's states at this lookahead. (Clemente and Mayr, lookahead simulation.)
+/// The greatest forward relation on the automaton's states at this lookahead. (Clemente and Mayr,
+/// lookahead simulation.)
 pub fn relation(alloc: Global, automaton: &Auto, look: u32) -> Result<Rel, Memory>
     requires look_from { 1 ≤ look }
     requires look_upto { look ≤ 6 }

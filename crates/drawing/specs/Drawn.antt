@@ -1,5 +1,5 @@
--- The two automata of a drill. The draws are taken in this order: one for each state's transition, one for each state's
--- acceptance, and three for each further transition of the second automaton.
+-- The two automata of a drill. The draws are taken in this order: one for each state's transition,
+-- one for each state's acceptance, and three for each further transition of the second automaton.
 use Rattle.std.specs.Prelude.{◌≡◌, ℕ, ◌+◌, ◌*◌, ◌/◌, ◌%◌, ◌≤◌, Bool, ◌||◌, ◌==◌, List, ◌++◌, map, filter, fold, codes, decimal}
 use Rattle.std.specs.List.{range_with_len}
 use Rattle.auto_core.specs.declared.parts.Trans.{Trans}
@@ -25,7 +25,8 @@ ring_at d s = trans s (draw_at d.seed s % d.labels) ((s + 1) % d.states)
 abbrev pub ring : Drill → List Trans
 ring d = map (ring_at d) (range_with_len 0 d.states)
 
--- In the first automaton 0 is accepting, and each state whose draw leaves 0 when it is divided by 4.
+-- In the first automaton 0 is accepting, and each state whose draw leaves 0 when it is divided by
+-- 4.
 abbrev pub accepts_first : Drill → ℕ → Bool
 accepts_first d s = (s == 0) || (draw_at d.seed (d.states + s) % 4 == 0)
 
@@ -42,7 +43,8 @@ extra_at d i =
 
 -- The ring, and one further transition for every eight states, each unless it is there.
 abbrev pub ring_and_more : Drill → List Trans
-ring_and_more d = fold (noted same_trans) (ring d) (map (extra_at d) (range_with_len 0 (d.states / 8)))
+ring_and_more d =
+    fold (noted same_trans) (ring d) (map (extra_at d) (range_with_len 0 (d.states / 8)))
 
 -- The label with this number: `a0`, `a1` and so on.
 abbrev pub drawn_label : ℕ → List ℕ
@@ -50,6 +52,8 @@ drawn_label a = codes "a" ++ decimal a
 
 -- The two automata of the drill. State 0 is initial in both.
 pub record AreDrawn (d : Drill) (pair : Joined) : Type 0 where
-  pub first : IsBuilt d.states d.labels 0 (ring d) (filter (accepts_first d) (range_with_len 0 d.states)) pair.first
-  pub second : IsBuilt d.states d.labels 0 (ring_and_more d) (filter (accepts_second d) (range_with_len 0 d.states)) pair.second
+  pub first : IsBuilt d.states d.labels 0 (ring d)
+      (filter (accepts_first d) (range_with_len 0 d.states)) pair.first
+  pub second : IsBuilt d.states d.labels 0 (ring_and_more d)
+      (filter (accepts_second d) (range_with_len 0 d.states)) pair.second
   pub labels : pair.labels ≡ map drawn_label (range_with_len 0 d.labels)

@@ -6,4 +6,5 @@ use Rattle.drawing.specs.Draws.{draw_at}
 
 -- The draws are all that the drill's automata take.
 abbrev pub AreDraws : Drill → List ℕ → Type 0
-AreDraws d draws = draws ≡ map (draw_at d.seed) (range_with_len 0 (2 * d.states + 3 * (d.states / 8)))
+AreDraws d draws =
+    draws ≡ map (draw_at d.seed) (range_with_len 0 (2 * d.states + 3 * (d.states / 8)))

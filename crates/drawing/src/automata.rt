@@ -63,7 +63,8 @@ fn accepts_second(drill: Drill, draws: &[u32], state: u32) -> bool
 fn first_accepting(alloc: Global, drill: Drill, draws: &[u32]) -> Result<Vec<u32>, Memory>
     requires bounds { IsInBounds drill }
     requires draws { AreDraws drill draws.now }
-    ensures { IfOk result (λ v. v.items ≡ filter (accepts_first drill) (range_with_len 0 drill.states)) }
+    ensures { IfOk
+        result (λ v. v.items ≡ filter (accepts_first drill) (range_with_len 0 drill.states)) }
 {
     let mut accepting = Vec::new(alloc);
     for state in 0..drill.states {
@@ -78,7 +79,8 @@ fn first_accepting(alloc: Global, drill: Drill, draws: &[u32]) -> Result<Vec<u32
 fn second_accepting(alloc: Global, drill: Drill, draws: &[u32]) -> Result<Vec<u32>, Memory>
     requires bounds { IsInBounds drill }
     requires draws { AreDraws drill draws.now }
-    ensures { IfOk result (λ v. v.items ≡ filter (accepts_second drill) (range_with_len 0 drill.states)) }
+    ensures { IfOk
+        result (λ v. v.items ≡ filter (accepts_second drill) (range_with_len 0 drill.states)) }
 {
     let mut accepting = Vec::new(alloc);
     for state in 0..drill.states {
@@ -118,7 +120,8 @@ fn has(steps: &[Trans], step: Trans) -> bool
     steps.iter().any(|other| is_same(step, *other))
 }
 
-/// The transitions of the second automaton: the ring, and those of the further ones that are new when their turn comes.
+/// The transitions of the second automaton: the ring, and those of the further ones that are new
+/// when their turn comes.
 fn ring_and_more(alloc: Global, drill: Drill, draws: &[u32]) -> Result<Vec<Trans>, Memory>
     requires bounds { IsInBounds drill }
     requires draws { AreDraws drill draws.now }

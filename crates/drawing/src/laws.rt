@@ -7,7 +7,8 @@ pub fn drawn_are_one()
     ensures { DrawnAreOne }
 {}
 
-/// The drawn automata are valid, over the labels of the pair, and have at most 512 states and 576 transitions.
+/// The drawn automata are valid, over the labels of the pair, and have at most 512 states and 576
+/// transitions.
 pub fn drawn_are_small()
     ensures { DrawnAreSmall }
 {}

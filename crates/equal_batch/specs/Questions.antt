@@ -29,7 +29,8 @@ line_of question = question.first ∷ question.second ∷ question.cert ∷ []
 pub record IsList (questions : List Question) (bytes : List ℕ) : Type 0 where
   pub words : list_all is_question (map line_of questions) ≡ true
   pub few : length questions ≤ MOST_LINES
-  pub text : (text_of (map line_of questions) ≡ bytes) ⊎ (text_of (map line_of questions) ≡ bytes ++ 10 ∷ [])
+  pub text : (text_of (map line_of questions) ≡ bytes)
+      ⊎ (text_of (map line_of questions) ≡ bytes ++ 10 ∷ [])
 
 -- The lines among these pieces: the last piece is one unless it is empty.
 abbrev pub lines_among : List Line → List Line
@@ -41,10 +42,13 @@ lines_among (line ∷ next ∷ lines) = line ∷ lines_among (next ∷ lines)
 abbrev pub cut_lines : List ℕ → List Line
 cut_lines bytes = lines_among (lines_of bytes)
 
--- The number of the first line that is no question or stands after the last that a list may have, where the first line has this number.
+-- The number of the first line that is no question or stands after the last that a list may have,
+-- where the first line has this number.
 abbrev pub bad_from : ℕ → List Line → Option ℕ
 bad_from number [] = None
-bad_from number (line ∷ lines) = if is_question line && nat_le number MOST_LINES then bad_from (number + 1) lines else Some number
+bad_from number (line ∷ lines) =
+    if is_question line && nat_le number MOST_LINES then bad_from (number + 1) lines
+    else Some number
 
 -- The first bad line of the bytes, numbered from 1.
 abbrev pub first_bad : List ℕ → Option ℕ

@@ -18,7 +18,8 @@ fn newline_at(bytes: &[u8]) -> Option<usize>
 pub(crate) fn first_line(bytes: &[u8]) -> (&[u8], &[u8])
     requires { 0 < length bytes.now }
     ensures lines { cut_lines bytes.now ≡ tokens_of result.0.now ∷ cut_lines result.1.now }
-    ensures whole { (bytes.now ≡ result.0.now ++ 10 ∷ result.1.now) ⊎ ((bytes.now ≡ result.0.now) × (result.1.now ≡ [])) }
+    ensures whole { (bytes.now ≡ result.0.now ++ 10 ∷ result.1.now)
+        ⊎ ((bytes.now ≡ result.0.now) × (result.1.now ≡ [])) }
     ensures shorter { length result.1.now < length bytes.now }
 {
     match newline_at(bytes) {

@@ -1,6 +1,7 @@
 //! What two answers can say together.
 
-/// What an answer to whether a first automaton is included in a second, and an answer to the converse, say together.
+/// What an answer to whether a first automaton is included in a second, and an answer to the
+/// converse, say together.
 #[derive(Clone, Copy, Debug, PartialEq, Eq)]
 pub enum Both {
     /// Each is included in the other.

@@ -47,7 +47,9 @@ fn question_of(alloc: Global, first: &[u8], second: &[u8], cert: &[u8]) -> Resul
 /// What the lines of the bytes ask, or the first bad line.
 fn read_lines(alloc: Global, bytes: &[u8]) -> Result<List<Question>, ListFault>
     requires { length bytes.now ≤ 2 ^ 16 }
-    ensures { MatchResult result (λ questions. (first_bad bytes.now ≡ None) × IsList questions bytes.now) (TellsLine (first_bad bytes.now)) }
+    ensures { MatchResult
+        result (λ questions. (first_bad bytes.now ≡ None) × IsList questions bytes.now)
+        (TellsLine (first_bad bytes.now)) }
 {
     let mut questions = List::new(alloc);
     let mut rest = bytes;
@@ -69,14 +71,17 @@ fn read_lines(alloc: Global, bytes: &[u8]) -> Result<List<Question>, ListFault>
     Ok(questions)
 }
 
-/// Reads a list of questions from its text, of at most 64 KiB, or tells the first bad line: one that is not three words joined by single
-/// spaces, or the 1,001st.
+/// Reads a list of questions from its text, of at most 64 KiB, or tells the first bad line: one
+/// that is not three words joined by single spaces, or the 1,001st.
 pub fn read_list(alloc: Global, bytes: &[u8]) -> Result<List<Question>, ListFault>
     requires { length bytes.now ≤ 2 ^ 16 }
     ensures found { IfOk result (λ questions. IsList questions bytes.now) }
-    ensures only { (questions : Items Question) → IsList questions bytes.now → (result ≡ Ok questions) ⊎ (result ≡ Err ListFault.Memory) }
-    ensures fault { (line : ℕ) → result ≡ Err (ListFault.Line line) → first_bad bytes.now ≡ Some line }
-    ensures first { (line : ℕ) → first_bad bytes.now ≡ Some line → (result ≡ Err (ListFault.Line line)) ⊎ (result ≡ Err ListFault.Memory) }
+    ensures only { (questions : Items Question) → IsList questions bytes.now
+        → (result ≡ Ok questions) ⊎ (result ≡ Err ListFault.Memory) }
+    ensures fault { (line : ℕ) → result ≡ Err (ListFault.Line line)
+        → first_bad bytes.now ≡ Some line }
+    ensures first { (line : ℕ) → first_bad bytes.now ≡ Some line
+        → (result ≡ Err (ListFault.Line line)) ⊎ (result ≡ Err ListFault.Memory) }
 {
     read_lines(alloc, bytes)
 }

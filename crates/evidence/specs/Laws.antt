@@ -7,4 +7,5 @@ use Rattle.evidence.specs.Entries.{entries_of}
 
 -- The elements of origins have these origins, in order.
 abbrev pub EntriesHaveOrigins : Type 0
-EntriesHaveOrigins = (A : Automaton) (origins : List Origin) → origins_in (entries_of A origins) ≡ origins
+EntriesHaveOrigins =
+    (A : Automaton) (origins : List Origin) → origins_in (entries_of A origins) ≡ origins

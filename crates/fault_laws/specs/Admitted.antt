@@ -17,8 +17,10 @@ with_ends (line ∷ lines) = line ++ 10 ∷ with_ends lines
 abbrev pub first_part : ℕ → List ℕ → List ℕ
 first_part n bytes = with_ends (take n (whole_lines bytes))
 
--- The first n lines are whole and admitted: a text that ends after them would have no fault at one of them.
-pub record AreAdmittedBy (IsFirst : List ℕ → TextFault → Type 0) (n : ℕ) (bytes : List ℕ) : Type 0 where
+-- The first n lines are whole and admitted: a text that ends after them would have no fault at one
+-- of them.
+pub record AreAdmittedBy (IsFirst : List ℕ → TextFault → Type 0) (n : ℕ)
+    (bytes : List ℕ) : Type 0 where
   pub whole : n ≤ length (whole_lines bytes)
   pub sound : (fault : TextFault) → IsFirst (first_part n bytes) fault → n < fault.line
 
@@ -26,9 +28,12 @@ pub record AreAdmittedBy (IsFirst : List ℕ → TextFault → Type 0) (n : ℕ)
 abbrev pub AreAdmitted : ℕ → List ℕ → Type 0
 AreAdmitted = AreAdmittedBy FirstFault
 
--- The first fault stands at the first line with which the lines up to it are not admitted: none is refused for what follows it.
+-- The first fault stands at the first line with which the lines up to it are not admitted: none is
+-- refused for what follows it.
 abbrev pub FaultEndsAdmitted : Type 0
-FaultEndsAdmitted = (bytes : List ℕ) (fault : TextFault) → FirstFault bytes fault → (n : ℕ) → (n < fault.line) ↔ AreAdmitted n bytes
+FaultEndsAdmitted =
+    (bytes : List ℕ) (fault : TextFault) → FirstFault bytes fault → (n : ℕ)
+    → (n < fault.line) ↔ AreAdmitted n bytes
 
 -- Lines with which a certificate's text begins are admitted.
 abbrev pub CertLinesAreAdmitted : Type 0
@@ -41,9 +46,11 @@ HoldsNoText bytes = (c : Cert) (more : List ℕ) → WellFormed c → bytes ≡ 
 -- That the text ends too soon is told in the line after all whole ones.
 abbrev pub TruncatedAtTheEnd : Type 0
 TruncatedAtTheEnd =
-    (bytes : List ℕ) (fault : TextFault) → FirstFault bytes fault → fault.kind ≡ Truncated → fault.line ≡ length (whole_lines bytes) + 1
+    (bytes : List ℕ) (fault : TextFault) → FirstFault bytes fault → fault.kind ≡ Truncated
+    → fault.line ≡ length (whole_lines bytes) + 1
 
--- The text ends too soon just where all its whole lines are admitted and it begins with no certificate's text.
+-- The text ends too soon just where all its whole lines are admitted and it begins with no
+-- certificate's text.
 abbrev pub TruncatedJustWhere : Type 0
 TruncatedJustWhere =
     (bytes : List ℕ)
@@ -61,9 +68,12 @@ HeaderInLineOne =
 -- The heading is wrong just where the first line is whole and is no certificate's first line.
 abbrev pub HeaderJustWhere : Type 0
 HeaderJustWhere =
-    (bytes : List ℕ) → FirstFault bytes (record { line = 1; kind = Header }) ↔ ((1 ≤ length (whole_lines bytes)) × (BeginCert 1 bytes → ⊥))
+    (bytes : List ℕ)
+    → FirstFault bytes (record { line = 1; kind = Header })
+    ↔ ((1 ≤ length (whole_lines bytes)) × (BeginCert 1 bytes → ⊥))
 
--- After these lines a second row is due, whose number would have to exceed the greatest one that a text can write.
+-- After these lines a second row is due, whose number would have to exceed the greatest one that a
+-- text can write.
 abbrev pub endless : List ℕ
 endless =
     with_ends
@@ -75,6 +85,7 @@ endless =
     ∷ codes "row 999999999 0"
     ∷ [])
 
--- They are admitted, and no certificate's text begins with them: here no line is refused for what could not follow it.
+-- They are admitted, and no certificate's text begins with them: here no line is refused for what
+-- could not follow it.
 abbrev pub EndlessIsAdmitted : Type 0
 EndlessIsAdmitted = AreAdmitted 6 endless × (BeginCert 6 endless → ⊥)

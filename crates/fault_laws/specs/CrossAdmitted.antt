@@ -13,10 +13,12 @@ use Rattle.fault_laws.specs.Crosses.{BeginCross}
 abbrev pub AreCrossAdmitted : ℕ → List ℕ → Type 0
 AreCrossAdmitted = AreAdmittedBy FirstCrossFault
 
--- The first fault stands at the first line with which the lines up to it are not admitted: none is refused for what follows it.
+-- The first fault stands at the first line with which the lines up to it are not admitted: none is
+-- refused for what follows it.
 abbrev pub CrossFaultEndsAdmitted : Type 0
 CrossFaultEndsAdmitted =
-    (bytes : List ℕ) (fault : TextFault) → FirstCrossFault bytes fault → (n : ℕ) → (n < fault.line) ↔ AreCrossAdmitted n bytes
+    (bytes : List ℕ) (fault : TextFault) → FirstCrossFault bytes fault → (n : ℕ)
+    → (n < fault.line) ↔ AreCrossAdmitted n bytes
 
 -- Lines with which a cross relation's text begins are admitted.
 abbrev pub CrossLinesAreAdmitted : Type 0
@@ -24,14 +26,17 @@ CrossLinesAreAdmitted = (n : ℕ) (bytes : List ℕ) → BeginCross n bytes → 
 
 -- The bytes begin with no cross relation's text.
 abbrev pub HoldsNoCrossText : List ℕ → Type 0
-HoldsNoCrossText bytes = (c : Cross) (more : List ℕ) → CrossFormed c → bytes ≡ cross_text c ++ more → ⊥
+HoldsNoCrossText bytes =
+    (c : Cross) (more : List ℕ) → CrossFormed c → bytes ≡ cross_text c ++ more → ⊥
 
 -- That the text ends too soon is told in the line after all whole ones.
 abbrev pub CrossTruncatedAtTheEnd : Type 0
 CrossTruncatedAtTheEnd =
-    (bytes : List ℕ) (fault : TextFault) → FirstCrossFault bytes fault → fault.kind ≡ Truncated → fault.line ≡ length (whole_lines bytes) + 1
+    (bytes : List ℕ) (fault : TextFault) → FirstCrossFault bytes fault → fault.kind ≡ Truncated
+    → fault.line ≡ length (whole_lines bytes) + 1
 
--- The text ends too soon just where all its whole lines are admitted and it begins with no cross relation's text.
+-- The text ends too soon just where all its whole lines are admitted and it begins with no cross
+-- relation's text.
 abbrev pub CrossTruncatedJustWhere : Type 0
 CrossTruncatedJustWhere =
     (bytes : List ℕ)
@@ -53,7 +58,8 @@ CrossHeaderJustWhere =
     → FirstCrossFault bytes (record { line = 1; kind = Header })
     ↔ ((1 ≤ length (whole_lines bytes)) × (BeginCross 1 bytes → ⊥))
 
--- After these lines a second row is due, whose number would have to exceed the greatest one that a text can write.
+-- After these lines a second row is due, whose number would have to exceed the greatest one that a
+-- text can write.
 abbrev pub cross_endless : List ℕ
 cross_endless =
     with_ends
@@ -64,6 +70,7 @@ cross_endless =
     ∷ codes "row 999999999 0"
     ∷ [])
 
--- They are admitted, and no cross relation's text begins with them: here no line is refused for what could not follow it.
+-- They are admitted, and no cross relation's text begins with them: here no line is refused for
+-- what could not follow it.
 abbrev pub CrossEndlessIsAdmitted : Type 0
 CrossEndlessIsAdmitted = AreCrossAdmitted 5 cross_endless × (BeginCross 5 cross_endless → ⊥)

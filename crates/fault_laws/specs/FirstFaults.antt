@@ -22,16 +22,19 @@ pub record BeginAlike (n : ℕ) (bytes others : List ℕ) : Type 0 where
   pub other_lines : n ≤ length (whole_lines others)
   pub same : take n (whole_lines bytes) ≡ take n (whole_lines others)
 
--- The first n lines of the bytes are whole, and are the first n lines of a well-formed certificate's text.
+-- The first n lines of the bytes are whole, and are the first n lines of a well-formed
+-- certificate's text.
 abbrev pub BeginCert : ℕ → List ℕ → Type 0
 BeginCert n bytes = (c : Cert) × WellFormed c × BeginAlike n bytes (text c)
 
 -- If the first n lines begin a certificate's text, a first fault stands after line n.
 abbrev pub FaultStandsLater : Type 0
-FaultStandsLater = (bytes : List ℕ) (n : ℕ) (fault : TextFault) → BeginCert n bytes → FirstFault bytes fault → n < fault.line
+FaultStandsLater =
+    (bytes : List ℕ) (n : ℕ) (fault : TextFault) → BeginCert n bytes → FirstFault bytes fault
+    → n < fault.line
 
--- If the first fault is neither that the text ends too soon nor that it goes on, its line is whole, and the lines up to that one begin
--- no certificate's text.
+-- If the first fault is neither that the text ends too soon nor that it goes on, its line is whole,
+-- and the lines up to that one begin no certificate's text.
 abbrev pub LinesBeginNone : Type 0
 LinesBeginNone =
     (bytes : List ℕ) (fault : TextFault)
@@ -46,4 +49,5 @@ MoreIsTrailing =
     (c : Cert) (more : List ℕ)
     → WellFormed c
     → more ≢ []
-    → FirstFault (text c ++ more) (record { line = length (whole_lines (text c)) + 1; kind = Trailing })
+    → FirstFault (text c ++ more)
+    (record { line = length (whole_lines (text c)) + 1; kind = Trailing })

@@ -10,11 +10,15 @@ use Rattle.cert_text.specs.Law.{FirstFault}
 
 -- Bytes are read as a certificate just where it is well-formed and they are its text.
 abbrev pub TextsAreRead : Type 0
-TextsAreRead = (bytes : List ℕ) (c : Cert) → (reading bytes ≡ Ok c) ↔ (WellFormed c × (bytes ≡ text c))
+TextsAreRead =
+    (bytes : List ℕ) (c : Cert) → (reading bytes ≡ Ok c) ↔ (WellFormed c × (bytes ≡ text c))
 
 -- Bytes are a certificate's text, or they have a first fault.
 abbrev pub TextOrFault : Type 0
-TextOrFault = (bytes : List ℕ) → ((c : Cert) × WellFormed c × (bytes ≡ text c)) ⊎ ((fault : TextFault) × FirstFault bytes fault)
+TextOrFault =
+    (bytes : List ℕ)
+    → ((c : Cert) × WellFormed c × (bytes ≡ text c))
+    ⊎ ((fault : TextFault) × FirstFault bytes fault)
 
 -- No text of a certificate has a first fault.
 abbrev pub NoTextHasFault : Type 0
@@ -22,7 +26,9 @@ NoTextHasFault = (c : Cert) (fault : TextFault) → WellFormed c → FirstFault 
 
 -- Bytes have one first fault at most.
 abbrev pub OneFirstFault : Type 0
-OneFirstFault = (bytes : List ℕ) (fault other : TextFault) → FirstFault bytes fault → FirstFault bytes other → fault ≡ other
+OneFirstFault =
+    (bytes : List ℕ) (fault other : TextFault) → FirstFault bytes fault → FirstFault bytes other
+    → fault ≡ other
 
 -- What is told to be trailing follows a certificate's text.
 abbrev pub TrailingFollowsText : Type 0

@@ -11,8 +11,8 @@ pub fn fault_stands_after_a_certificates_lines()
     ensures { FaultStandsLater }
 {}
 
-/// A fault that is neither that the text ends too soon nor that it goes on stands in a whole line, and with the lines up to that one no
-/// certificate's text begins.
+/// A fault that is neither that the text ends too soon nor that it goes on stands in a whole line,
+/// and with the lines up to that one no certificate's text begins.
 pub fn lines_up_to_the_fault_begin_none()
     ensures { LinesBeginNone }
 {}
@@ -42,7 +42,8 @@ pub fn truncated_stands_at_the_end()
     ensures { TruncatedAtTheEnd }
 {}
 
-/// The text ends too soon just where all whole lines are admitted and no certificate's text stands at its beginning.
+/// The text ends too soon just where all whole lines are admitted and no certificate's text stands
+/// at its beginning.
 pub fn truncated_where_no_line_is_refused()
     ensures { TruncatedJustWhere }
 {}
@@ -102,13 +103,14 @@ pub fn there_is_one_first_cross_fault()
     ensures { OneFirstCrossFault }
 {}
 
-/// After so many lines as a cross relation's text begins with, a first fault stands in a later line.
+/// After so many lines as a cross relation's text begins with, a first fault stands in a later
+/// line.
 pub fn fault_stands_after_a_cross_relations_lines()
     ensures { CrossFaultStandsLater }
 {}
 
-/// A fault that is neither that the text ends too soon nor that it goes on stands in a whole line, and with the lines up to that one no
-/// cross relation's text begins.
+/// A fault that is neither that the text ends too soon nor that it goes on stands in a whole line,
+/// and with the lines up to that one no cross relation's text begins.
 pub fn lines_up_to_the_fault_begin_no_cross_text()
     ensures { CrossLinesBeginNone }
 {}
@@ -123,7 +125,8 @@ pub fn trailing_follows_a_cross_text()
     ensures { CrossTrailingFollowsText }
 {}
 
-/// The first fault of a cross relation's text stands at the first line with which the lines up to it are not admitted.
+/// The first fault of a cross relation's text stands at the first line with which the lines up to
+/// it are not admitted.
 pub fn the_cross_fault_ends_the_admitted_lines()
     ensures { CrossFaultEndsAdmitted }
 {}
@@ -143,7 +146,8 @@ pub fn cross_truncated_stands_at_the_end()
     ensures { CrossTruncatedAtTheEnd }
 {}
 
-/// The text ends too soon just where all whole lines are admitted and no cross relation's text stands at its beginning.
+/// The text ends too soon just where all whole lines are admitted and no cross relation's text
+/// stands at its beginning.
 pub fn cross_truncated_where_no_line_is_refused()
     ensures { CrossTruncatedJustWhere }
 {}

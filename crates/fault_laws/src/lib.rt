@@ -1,4 +1,5 @@
-//! Where the first fault of a certificate's or a cross relation's text stands, told by texts: each law is the contract of a function that does nothing.
+//! Where the first fault of a certificate's or a cross relation's text stands, told by texts: each
+//! law is the contract of a function that does nothing.
 #![tactic(auto)]
 
 mod laws;

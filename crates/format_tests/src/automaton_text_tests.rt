@@ -104,7 +104,8 @@ fn texts_read_by_the_rules(rt: HostRuntime) -> Result<(), Fail> {
     for (text, written) in [
         // One state line before the first transition is the initial state, and no accepting line.
         ("[1]\na,[0]->[1]\n[0]\n", "[0]\na,[1]->[0]\n[1]\n"),
-        // Without one, the first source is initial; without an accepting line all states are accepting.
+        // Without one, the first source is initial; without an accepting line all states are
+        // accepting.
         (
             "a,[5]->[7]\nb,[7]->[5]\n",
             "[0]\na,[0]->[1]\nb,[1]->[0]\n[0]\n[1]\n",
@@ -117,7 +118,8 @@ fn texts_read_by_the_rules(rt: HostRuntime) -> Result<(), Fail> {
         ("a,0->0\n1\nb,0->1\n", "[0]\na,[0]->[0]\nb,[0]->[1]\n[1]\n"),
         // What is repeated counts once.
         ("a,0->0\na,0->0\n0\n0\na,0->0\n0", "[0]\na,[0]->[0]\n[0]\n"),
-        // Lines end in LF or CRLF, and the last LF may be missing; blanks at the ends of lines and tokens don't count.
+        // Lines end in LF or CRLF, and the last LF may be missing; blanks at the ends of lines and
+        // tokens don't count.
         (
             "\r\n\t[0] \r\n a b\t, [0]  ->\t[0]\r\n\r\n[0]",
             "[0]\na b,[0]->[0]\n[0]\n",

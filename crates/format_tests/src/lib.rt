@@ -1,4 +1,5 @@
-//! Tests of files in memory and real ones, of automata and their texts, and of the texts of certificates.
+//! Tests of files in memory and real ones, of automata and their texts, and of the texts of
+//! certificates.
 #![tactic(auto)]
 
 #[cfg(test)]

@@ -68,7 +68,8 @@ fn strays<H: Shelf>(alloc: Global, shelf: &mut H, calls: &[Call<'_>]) -> u32 {
     strays
 }
 
-/// How many of the calls of the shelf with two files answer something else, where it gives pieces of so many bytes and these of its calls fail.
+/// How many of the calls of the shelf with two files answer something else, where it gives pieces
+/// of so many bytes and these of its calls fail.
 fn strays_among(
     alloc: Global,
     piece: u32,
@@ -181,7 +182,8 @@ fn fails_when_told_to(rt: HostRuntime) -> Result<(), Fail> {
     Ok(())
 }
 
-/// What loading a file of one byte more than 64 KiB comes to, where one call fails, from a shelf that gives as much as is asked for.
+/// What loading a file of one byte more than 64 KiB comes to, where one call fails, from a shelf
+/// that gives as much as is asked for.
 fn long_file_loads(alloc: Global, failing: u64) -> Result<bool, Memory> {
     let mut files = List::new(alloc);
     let name = list_of(alloc, b"a")?;
@@ -258,7 +260,8 @@ fn real_calls<'a>(first: &'a str, again: &'a str, other: &'a str) -> [Call<'a>; 
         Call::Begin(first),
         Call::Put(again, b"other bytes", true),
         Call::Take(b""),
-        // a refused put of the begun file ends it too: a folder is opened, but neither read nor made
+        // a refused put of the begun file ends it too: a folder is opened, but neither read nor
+        // made
         Call::Begin("/tmp"),
         Call::Put("/tmp", b"x", false),
         Call::Take(b""),

@@ -8,19 +8,30 @@ use Rattle.auto_core.specs.declared.parts.Mode.TheVariants.{Buchi}
 use Rattle.auto_core.specs.declared.parts.Origin.{Origin}
 use Rattle.auto_core.specs.declared.parts.Origin.TheVariants.{Start}
 
--- If there is a closed set, B accepts each lasso that A accepts. The list S need be neither reflexive nor transitive.
+-- If there is a closed set, B accepts each lasso that A accepts. The list S need be neither
+-- reflexive nor transitive.
 abbrev pub ClosedSetIncludes : Type 0
-ClosedSetIncludes = (A B : Automaton) (S : List (ℕ × ℕ)) (arcs : List WordArc) (live : ℕ → Bool) → IsAutomaton B → ClosedSet A B S arcs live → Includes A B Buchi
+ClosedSetIncludes =
+    (A B : Automaton) (S : List (ℕ × ℕ)) (arcs : List WordArc) (live : ℕ → Bool) → IsAutomaton B
+    → ClosedSet A B S arcs live → Includes A B Buchi
 
--- A pair of real arcs whose supergraphs fail has words that are a lasso which A accepts and B does not.
+-- A pair of real arcs whose supergraphs fail has words that are a lasso which A accepts and B does
+-- not.
 abbrev pub FailingPairsSeparate : Type 0
-FailingPairsSeparate = (A B : Automaton) (x y : WordArc) → IsReal A x → IsReal A y → Fails A B (super_of B x) (super_of B y) → SeparatesLasso A B x.word y.word
+FailingPairsSeparate =
+    (A B : Automaton) (x y : WordArc) → IsReal A x → IsReal A y
+    → Fails A B (super_of B x) (super_of B y) → SeparatesLasso A B x.word y.word
 
--- Origins have one arc each. Where they are placed, each arc is that of its origin; one more origin adds its arc at the end.
+-- Origins have one arc each. Where they are placed, each arc is that of its origin; one more origin
+-- adds its arc at the end.
 pub record HaveArcs (A : Automaton) (origins : List Origin) : Type 0 where
   pub count : length (arcs_of A origins) ≡ length origins
-  pub each : ArePlaced A origins → (e : ℕ) → e < length origins → arc_at A (arcs_of A origins) e ≡ arc_of A (arcs_of A origins) (slice_index_or origins e Start)
-  pub more : (origin : Origin) → arcs_of A (origins ++ origin ∷ []) ≡ arcs_of A origins ++ arc_of A (arcs_of A origins) origin ∷ []
+  pub each : ArePlaced A origins → (e : ℕ) → e < length origins
+      → arc_at A (arcs_of A origins) e
+      ≡ arc_of A (arcs_of A origins) (slice_index_or origins e Start)
+  pub more : (origin : Origin)
+      → arcs_of A (origins ++ origin ∷ [])
+      ≡ arcs_of A origins ++ arc_of A (arcs_of A origins) origin ∷ []
 
 -- That is so for all origins.
 abbrev pub OriginsHaveArcs : Type 0
@@ -28,4 +39,6 @@ OriginsHaveArcs = (A : Automaton) (origins : List Origin) → HaveArcs A origins
 
 -- Each arc of origins that are placed is that of a run, and its word is not empty.
 abbrev pub PlacedArcsAreReal : Type 0
-PlacedArcsAreReal = (A : Automaton) (origins : List Origin) → ArePlaced A origins → (e : ℕ) → e < length origins → IsReal A (arc_at A (arcs_of A origins) e)
+PlacedArcsAreReal =
+    (A : Automaton) (origins : List Origin) → ArePlaced A origins → (e : ℕ) → e < length origins
+    → IsReal A (arc_at A (arcs_of A origins) e)

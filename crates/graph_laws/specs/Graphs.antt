@@ -11,7 +11,9 @@ GraphsOfLetters = (B : Automaton) (a : ℕ) → SameGraph (graph_of B (a ∷ [])
 
 -- The graph of a word with one letter more is the word's graph, extended by the letter.
 abbrev pub GraphsExtend : Type 0
-GraphsExtend = (B : Automaton) (w : List ℕ) (a : ℕ) → SameGraph (graph_of B (w ++ a ∷ [])) (extended B (graph_of B w) a)
+GraphsExtend =
+    (B : Automaton) (w : List ℕ) (a : ℕ)
+    → SameGraph (graph_of B (w ++ a ∷ [])) (extended B (graph_of B w) a)
 
 -- An arc with any graph: the one that gives each pair of states the value that the function does.
 abbrev pub valued : ℕ → ℕ → Bool → (ℕ → ℕ → ℕ) → Supergraph
@@ -23,13 +25,17 @@ IsKeptByExtension A B W = (p q r s : ℕ) (e f : Bool) (v w : ℕ → ℕ → �
     Subsumes W (valued p q e v) (valued r s f w) →
     Subsumes W (extension_of A B (valued p q e v) t) (extension_of A B (valued r s f w) t)
 
--- Subsuming by a list that is stable forward at lookahead 1 is kept by extension, and subsuming by its closure too.
+-- Subsuming by a list that is stable forward at lookahead 1 is kept by extension, and subsuming by
+-- its closure too.
 abbrev pub SubsumptionIsKept : Type 0
-SubsumptionIsKept = (A B : Automaton) (S : List (ℕ × ℕ)) → StableForward B 1 S → IsKeptByExtension A B (Holds S) × IsKeptByExtension A B (Close (Holds S))
+SubsumptionIsKept =
+    (A B : Automaton) (S : List (ℕ × ℕ)) → StableForward B 1 S
+    → IsKeptByExtension A B (Holds S) × IsKeptByExtension A B (Close (Holds S))
 
 -- Subsuming by the closure of S is reflexive and transitive, and holds where S subsumes.
 pub record IsOrderOver (S : List (ℕ × ℕ)) : Type 0 where
-  pub reflexive : (p q : ℕ) (e : Bool) (v : ℕ → ℕ → ℕ) → Subsumes (Close (Holds S)) (valued p q e v) (valued p q e v)
+  pub reflexive : (p q : ℕ) (e : Bool) (v : ℕ → ℕ → ℕ)
+      → Subsumes (Close (Holds S)) (valued p q e v) (valued p q e v)
   pub transitive : (p q r s m n : ℕ) (e f d : Bool) (v w x : ℕ → ℕ → ℕ) →
       Subsumes (Close (Holds S)) (valued p q e v) (valued r s f w) →
       Subsumes (Close (Holds S)) (valued r s f w) (valued m n d x) →

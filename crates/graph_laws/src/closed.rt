@@ -2,12 +2,14 @@
 
 ghost use Rattle.graph_laws.specs.Closed.{ClosedSetIncludes, FailingPairsSeparate, OriginsHaveArcs, PlacedArcsAreReal};
 
-/// If the supergraphs of some arcs with words are closed, the second automaton accepts each lasso that the first accepts.
+/// If the supergraphs of some arcs with words are closed, the second automaton accepts each lasso
+/// that the first accepts.
 pub fn closed_set_includes()
     ensures { ClosedSetIncludes }
 {}
 
-/// The words of a pair of arcs whose supergraphs fail are a lasso that the first automaton accepts and the second does not.
+/// The words of a pair of arcs whose supergraphs fail are a lasso that the first automaton accepts
+/// and the second does not.
 pub fn failing_pairs_separate()
     ensures { FailingPairsSeparate }
 {}

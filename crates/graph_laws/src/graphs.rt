@@ -7,13 +7,14 @@ pub fn graphs_of_letters()
     ensures { GraphsOfLetters }
 {}
 
-/// The graph of a word with one letter more is the word's graph with its arcs followed by the letter's moves.
+/// The graph of a word with one letter more is the word's graph with its arcs followed by the
+/// letter's moves.
 pub fn graphs_extend()
     ensures { GraphsExtend }
 {}
 
-/// Subsuming by a relation that is stable forward at lookahead 1, or by its closure, is kept when both are extended by the
-/// same transition, whatever the graphs.
+/// Subsuming by a relation that is stable forward at lookahead 1, or by its closure, is kept when
+/// both are extended by the same transition, whatever the graphs.
 pub fn subsumption_is_kept()
     ensures { SubsumptionIsKept }
 {}

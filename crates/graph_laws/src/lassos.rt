@@ -7,12 +7,14 @@ pub fn lassos_are_reached()
     ensures { LassosAreReached }
 {}
 
-/// A lasso between two graphs that are tables of bits is a flagged cycle reached from the marks of a row.
+/// A lasso between two graphs that are tables of bits is a flagged cycle reached from the marks of
+/// a row.
 pub fn lassos_are_cycles()
     ensures { LassosAreCycles }
 {}
 
-/// The graphs of two words have a lasso from the initial state just where the lasso of the words is accepted.
+/// The graphs of two words have a lasso from the initial state just where the lasso of the words is
+/// accepted.
 pub fn lassos_are_accepted()
     ensures { LassosAreAccepted }
 {}
@@ -27,7 +29,8 @@ pub fn lassos_leave_words()
     ensures { LassosLeaveWords }
 {}
 
-/// Graphs that cover words' graphs and are covered by them have a lasso just where the lasso of the words is accepted.
+/// Graphs that cover words' graphs and are covered by them have a lasso just where the lasso of the
+/// words is accepted.
 pub fn covered_lassos_are_accepted()
     ensures { CoveredLassosAreAccepted }
 {}

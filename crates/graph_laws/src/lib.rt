@@ -1,5 +1,5 @@
-//! The laws of graphs, of subsuming, of the lasso test and of closed sets: each is the contract of a function that does
-//! nothing.
+//! The laws of graphs, of subsuming, of the lasso test and of closed sets: each is the contract of
+//! a function that does nothing.
 #![tactic(auto)]
 
 mod closed;

@@ -2,7 +2,8 @@
 
 ghost use Rattle.graph_laws.specs.Standing.{TablesServeAsGraphs};
 
-/// Tables of bits with a word's values serve as its graph: for extending it, for covering and for the lasso test.
+/// Tables of bits with a word's values serve as its graph: for extending it, for covering and for
+/// the lasso test.
 pub fn tables_serve_as_graphs()
     ensures { TablesServeAsGraphs }
 {}

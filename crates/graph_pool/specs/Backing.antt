@@ -20,9 +20,15 @@ live_blocks ms bs = live_blocks_from 0 ms bs
 
 -- The contents that the fields stand for.
 abbrev pub pool_contents : Inside → PoolContents
-pool_contents p = record { words = p.store.size; blocks = live_blocks p.marks.items p.store.blocks; free = p.free }
+pool_contents p =
+    record {
+      words = p.store.size;
+      blocks = live_blocks p.marks.items p.store.blocks;
+      free = p.free;
+    }
 
--- The fields fit one another. Each block that was ever given out has a mark, which tells whether it is live; those that were given back are linked.
+-- The fields fit one another. Each block that was ever given out has a mark, which tells whether it
+-- is live; those that were given back are linked.
 pub record IsPool (p : Inside) : Type 0 where
   pub some : 0 < p.store.size
   pub even : All (λ ws. length ws ≡ p.store.size) p.store.blocks

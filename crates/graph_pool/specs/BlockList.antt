@@ -9,8 +9,15 @@ pub record BlockList : Type 0 where
   pub blocks : List (List ℕ)
 
 abbrev pub list_code : Coded BlockList
-list_code = code_by (ℕ × List (List ℕ)) (coded× coded_ℕ (coded_list (coded_list coded_ℕ))) (λ b. (b.size, b.blocks)) (λ p. record { size = p.0; blocks = p.1 }) (λ _. refl)
+list_code =
+    code_by (ℕ × List (List ℕ))
+    (coded× coded_ℕ (coded_list (coded_list coded_ℕ))) (λ b. (b.size, b.blocks)) (λ p.
+    record { size = p.0; blocks = p.1 }) (λ _. refl)
 
 -- The blocks with the words of the block at i replaced.
 abbrev pub with_block : BlockList → ℕ → List ℕ → BlockList
-with_block b i ws = record { size = b.size; blocks = slice_set b.blocks i (refill b.size (get_or b.blocks i []) ws) }
+with_block b i ws =
+    record {
+      size = b.size;
+      blocks = slice_set b.blocks i (refill b.size (get_or b.blocks i []) ws);
+    }

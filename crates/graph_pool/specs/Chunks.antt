@@ -9,15 +9,20 @@ use Rattle.graph_pool.specs.declared.store.TheConstants.{CHUNK}
 
 -- The lease is that of the memory of a chunk's blocks of `size` words, which begins at the start.
 abbrev pub IsChunk : Global → ℕ → Chunk → Type 0
-IsChunk alloc size c = InBlock c.start.ptr × (lease_ptr c.lease ≡ c.start.ptr) × (lease_len c.lease ≡ CHUNK * size) × (lease_heap c.lease ≡ alloc) × (CHUNK * size * 8 < 2 ^ 63)
+IsChunk alloc size c =
+    InBlock c.start.ptr × (lease_ptr c.lease ≡ c.start.ptr) × (lease_len c.lease ≡ CHUNK * size)
+    × (lease_heap c.lease ≡ alloc) × (CHUNK * size * 8 < 2 ^ 63)
 
 -- Where the chunks begin.
 abbrev pub starts : List Chunk → List Ptr
 starts cs = map (λ c. c.start.ptr) cs
 
--- The i-th segment begins where the block i % CHUNK of the chunk i / CHUNK does, and has `size` words.
+-- The i-th segment begins where the block i % CHUNK of the chunk i / CHUNK does, and has `size`
+-- words.
 abbrev pub IsLaidAt : ℕ → List Chunk → List Segment → ℕ → Type 0
-IsLaidAt size cs ss i = ((segment_at ss i).0 ≡ moved (get_or (starts cs) (i / CHUNK) null_ptr) (i % CHUNK * (size * 8))) × (length (segment_at ss i).1 ≡ size)
+IsLaidAt size cs ss i =
+    ((segment_at ss i).0 ≡ moved (get_or (starts cs) (i / CHUNK) null_ptr) (i % CHUNK * (size * 8)))
+    × (length (segment_at ss i).1 ≡ size)
 
 -- The segments are the blocks of the chunks.
 pub record IsLaid (alloc : Global) (size : ℕ) (cs : List Chunk) (ss : List Segment) : Type 0 where

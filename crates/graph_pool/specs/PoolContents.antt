@@ -12,7 +12,11 @@ pub record PoolContents : Type 0 where
   pub free : ℕ
 
 abbrev pub pool_code : Coded PoolContents
-pool_code = code_by (ℕ × (map.FinMap nat_cmp (List ℕ) × ℕ)) (coded× coded_ℕ (coded× (map.code coded_ℕ (coded_list coded_ℕ)) coded_ℕ)) (λ p. (p.words, (p.blocks, p.free))) (λ c. record { words = c.0; blocks = c.1.0; free = c.1.1 }) (λ _. refl)
+pool_code =
+    code_by (ℕ × (map.FinMap nat_cmp (List ℕ) × ℕ))
+    (coded× coded_ℕ (coded× (map.code coded_ℕ (coded_list coded_ℕ)) coded_ℕ)) (λ p.
+    (p.words, (p.blocks, p.free))) (λ c. record { words = c.0; blocks = c.1.0; free = c.1.1 }) (λ _.
+    refl)
 
 -- The words under a handle.
 abbrev pub words_at : PoolContents → ℕ → List ℕ

@@ -11,4 +11,5 @@ with_segments s ss = record { mark = s.mark; all = ss }
 
 -- The segment at i has the last words written through r.
 abbrev pub LendsSegment : MutBor Segments → ℕ → MutBor (List ℕ) → Fml
-LendsSegment s i r = Lends the_row (Array u64 0) s r (λ ws. with_segments s.now (rewritten s.now.all i ws))
+LendsSegment s i r =
+    Lends the_row (Array u64 0) s r (λ ws. with_segments s.now (rewritten s.now.all i ws))

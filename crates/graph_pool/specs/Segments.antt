@@ -17,7 +17,8 @@ IsSegment ss i p n = (i < length ss) × (p ≡ (segment_at ss i).0) × (length (
 
 -- The segments with the words of the i-th replaced.
 abbrev pub rewritten : List Segment → ℕ → List ℕ → List Segment
-rewritten ss i ws = slice_set ss i ((segment_at ss i).0, refill (length (segment_at ss i).1) (segment_at ss i).1 ws)
+rewritten ss i ws =
+    slice_set ss i ((segment_at ss i).0, refill (length (segment_at ss i).1) (segment_at ss i).1 ws)
 
 -- k bytes further on.
 abbrev pub moved : Ptr → ℕ → Ptr
@@ -36,4 +37,7 @@ even_parts size (suc n) ws = take size ws ∷ even_parts size n (drop size ws)
 
 -- The last segments lie side by side from p on, so many, of so many words each.
 abbrev pub EndsAt : List Segment → Ptr → ℕ → ℕ → Type 0
-EndsAt ss p size count = (wss : List (List ℕ)) × (length wss ≡ count) × ((i : ℕ) → i < length wss → length (get_or wss i []) ≡ size) × (count ≤ length ss) × (drop (length ss - count) ss ≡ segments_from p (size * 8) wss)
+EndsAt ss p size count =
+    (wss : List (List ℕ)) × (length wss ≡ count)
+    × ((i : ℕ) → i < length wss → length (get_or wss i []) ≡ size) × (count ≤ length ss)
+    × (drop (length ss - count) ss ≡ segments_from p (size * 8) wss)

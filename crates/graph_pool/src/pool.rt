@@ -14,9 +14,10 @@ use std::marker::Model;
 #[derive(Clone, Copy, Debug, Drop, PartialEq, Eq)]
 pub struct Handle(u32);
 
-/// Blocks of a number of words each, under handles. Contracts see it as `PoolContents`: that number, the map from live handles to
-/// the words of their blocks, and the number of free blocks. A free block that was live before is linked: its first word is the
-/// handle of the next one and 1 more, or 0.
+/// Blocks of a number of words each, under handles. Contracts see it as `PoolContents`: that
+/// number, the map from live handles to the words of their blocks, and the number of free blocks. A
+/// free block that was live before is linked: its first word is the handle of the next one and 1
+/// more, or 0.
 #[derive(Drop)]
 pub struct Pool {
     store: Store,
@@ -57,10 +58,14 @@ impl Pool {
         }
     }
 
-    /// Makes a block live, whose words are any, and answers its handle. With a free block it takes no memory; without one it makes a chunk of blocks.
+    /// Makes a block live, whose words are any, and answers its handle. With a free block it takes
+    /// no memory; without one it makes a chunk of blocks.
     pub fn add(&mut self) -> Result<Handle, Memory>
         requires { map.len self.old.blocks + 1 < 2 ^ 32 }
-        ensures added { IfOk result (λ h. (ws : List ℕ) × (map.get self.old.blocks h.0 ≡ None) × (length ws ≡ self.old.words) × (self.new.blocks ≡ map.insert self.old.blocks h.0 ws)) }
+        ensures added { IfOk
+            result (λ h.
+            (ws : List ℕ) × (map.get self.old.blocks h.0 ≡ None) × (length ws ≡ self.old.words)
+            × (self.new.blocks ≡ map.insert self.old.blocks h.0 ws)) }
         ensures words { self.new.words ≡ self.old.words }
         ensures free { IsOk result → 0 < self.old.free → self.new.free + 1 ≡ self.old.free }
         ensures chunk { IsOk result → self.old.free ≡ 0 → self.new.free ≡ 63 }
@@ -76,7 +81,10 @@ impl Pool {
     fn make_room(&mut self) -> Result<(), Memory>
         requires few { map.len self.old.blocks + 1 < 2 ^ 32 }
         requires none { self.old.free ≡ 0 }
-        ensures made { IfOk result (λ _. (self.new.words ≡ self.old.words) × (self.new.blocks ≡ self.old.blocks) × (self.new.free ≡ CHUNK)) }
+        ensures made { IfOk
+            result (λ _.
+            (self.new.words ≡ self.old.words) × (self.new.blocks ≡ self.old.blocks)
+            × (self.new.free ≡ CHUNK)) }
         ensures refused { OnErr result (self.new ≡ self.old) }
     {
         self.marks.reserve(CHUNK)?;
@@ -88,7 +96,9 @@ impl Pool {
     fn take_free(&mut self) -> Handle
         requires few { map.len self.old.blocks + 1 < 2 ^ 32 }
         requires some { 0 < self.old.free }
-        ensures added { (ws : List ℕ) × (map.get self.old.blocks result.0 ≡ None) × (length ws ≡ self.old.words) × (self.new.blocks ≡ map.insert self.old.blocks result.0 ws) }
+        ensures added { (ws : List ℕ) × (map.get self.old.blocks result.0 ≡ None)
+            × (length ws ≡ self.old.words)
+            × (self.new.blocks ≡ map.insert self.old.blocks result.0 ws) }
         ensures words { self.new.words ≡ self.old.words }
         ensures free { self.new.free + 1 ≡ self.old.free }
     {

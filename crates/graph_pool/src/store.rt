@@ -132,7 +132,8 @@ impl Store {
     pub(crate) fn set_link(&mut self, at: usize, next: u64)
         requires inside { at < length self.old.blocks }
         requires some { 0 < self.old.size }
-        ensures { self.new ≡ with_block self.old at (slice_set (get_or self.old.blocks at []) 0 next) }
+        ensures { self.new
+            ≡ with_block self.old at (slice_set (get_or self.old.blocks at []) 0 next) }
     {
         self.block_mut(at)[0] = next;
     }
@@ -140,7 +141,8 @@ impl Store {
     /// Appends a chunk of blocks of zeros.
     pub(crate) fn grow(&mut self) -> Result<(), Memory>
         ensures size { self.new.size ≡ self.old.size }
-        ensures grown { OnOk result (self.new.blocks ≡ self.old.blocks ++ replicate CHUNK (replicate self.old.size 0)) }
+        ensures grown { OnOk result
+            (self.new.blocks ≡ self.old.blocks ++ replicate CHUNK (replicate self.old.size 0)) }
         ensures refused { OnErr result (self.new ≡ self.old) }
     {
         if self.size > usize::MAX / 1024 {

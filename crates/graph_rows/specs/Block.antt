@@ -23,7 +23,8 @@ past_plane n block = drop (plane_len n) block
 abbrev pub block_graph : ℕ → List ℕ → Graph
 block_graph n block = graph_of_tables (joined_plane n block) (past_plane n block) n (width_of n)
 
--- The block stands for a graph of n states: two planes, with no bit beyond the n columns, the second one within the first.
+-- The block stands for a graph of n states: two planes, with no bit beyond the n columns, the
+-- second one within the first.
 pub record IsFormed (n : ℕ) (block : List ℕ) : Type 0 where
   pub len : length block ≡ 2 * n * width_of n
   pub joined : IsTable (joined_plane n block) n (width_of n)

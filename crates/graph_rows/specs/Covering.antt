@@ -19,7 +19,8 @@ AnswersWord S R Q word = (s t : ℕ) → t / 64 ≡ word → R s t → IsTargetA
 abbrev pub AreOwnAnswers : (ℕ → ℕ → Type 0) → ℕ → ℕ → Type 0
 AreOwnAnswers S word bits = (j : ℕ) → HasBit (bits ∷ []) j → S (word * 64 + j) (word * 64 + j)
 
--- An arc of R out of s has no answer in Q: no arc of Q out of s leads to a state that S relates its end to.
+-- An arc of R out of s has no answer in Q: no arc of Q out of s leads to a state that S relates its
+-- end to.
 pub record LacksAnswer (S R Q : ℕ → ℕ → Type 0) (s : ℕ) : Type 0 where
   pub target : ℕ
   pub arc : R s target

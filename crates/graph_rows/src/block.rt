@@ -30,7 +30,8 @@ pub fn past(n: u32, g: &[u64]) -> &[u64]
     &g[n as usize * rows::words_for(n)..]
 }
 
-/// The value of the pair: 0 where it is not joined, 2 where it is joined past an accepting state, else 1.
+/// The value of the pair: 0 where it is not joined, 2 where it is joined past an accepting state,
+/// else 1.
 pub fn arc(n: u32, g: &[u64], p: u32, q: u32) -> u8
     requires formed { IsFormed n g.now }
     requires source { p < n }

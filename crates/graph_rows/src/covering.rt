@@ -13,7 +13,8 @@ use auto_core::rows;
 use bit_rel::Rel;
 use row_steps::{meets, next_bit, subset};
 
-/// Tells whether an arc leads from the state of the row to some state that the order relates the target to: one of `past` if
+/// Tells whether an arc leads from the state of the row to some state that the order relates the
+/// target to: one of `past` if
 /// `flagged` says so, else one of `joined`.
 pub fn answers(
     order: &Rel,
@@ -29,8 +30,13 @@ pub fn answers(
     requires is_state { target < order.now.size }
     requires joined { IsTable joined.now order.now.size width }
     requires past { IsTable past.now order.now.size width }
-    ensures any { flagged ≡ false → IsTrue result ↔ ((u : ℕ) × HasArc joined.now order.now.size width row u × Holds order.now.pairs target u) }
-    ensures marked { flagged ≡ true → IsTrue result ↔ ((u : ℕ) × HasArc past.now order.now.size width row u × Holds order.now.pairs target u) }
+    ensures any { flagged ≡ false
+        → IsTrue result
+        ↔ ((u : ℕ) × HasArc joined.now order.now.size width row u
+        × Holds order.now.pairs target u) }
+    ensures marked { flagged ≡ true
+        → IsTrue result
+        ↔ ((u : ℕ) × HasArc past.now order.now.size width row u × Holds order.now.pairs target u) }
 {
     let wanted = order.row(target);
     if flagged {
@@ -40,7 +46,8 @@ pub fn answers(
     }
 }
 
-/// Tells whether the first arc out of the state of the row that the second graph has not, has no answer in it either.
+/// Tells whether the first arc out of the state of the row that the second graph has not, has no
+/// answer in it either.
 fn is_row_refused(
     order: &Rel,
     width: usize,
@@ -55,7 +62,9 @@ fn is_row_refused(
     requires joined { IsTable joined.now order.now.size width }
     requires other_joined { IsTable other_joined.now order.now.size width }
     requires other_past { IsTable other_past.now order.now.size width }
-    ensures { result ≡ true → LacksAnswer (Holds order.now.pairs) (HasArc joined.now order.now.size width) (HasArc other_joined.now order.now.size width) row }
+    ensures { result ≡ true
+        → LacksAnswer (Holds order.now.pairs) (HasArc joined.now order.now.size width)
+        (HasArc other_joined.now order.now.size width) row }
 {
     let targets = rows::row_at(joined, width, row as usize);
     let others = rows::row_at(other_joined, width, row as usize);
@@ -77,7 +86,9 @@ fn is_row_refused(
 fn is_refused(order: &Rel, g: &[u64], h: &[u64]) -> bool
     requires first { IsFormed order.now.size g.now }
     requires second { IsFormed order.now.size h.now }
-    ensures { result ≡ true → Covers (Holds order.now.pairs) (block_graph order.now.size g.now) (block_graph order.now.size h.now) → ⊥ }
+    ensures { result ≡ true
+        → Covers (Holds order.now.pairs) (block_graph order.now.size g.now)
+        (block_graph order.now.size h.now) → ⊥ }
 {
     let states = order.size();
     let width = rows::words_for(states);
@@ -101,7 +112,9 @@ fn are_answered(order: &Rel, word: usize, targets: u64, others: &[u64]) -> bool
     requires states_fit { order.now.size < 2 ^ 32 }
     requires width { length others.now ≡ width_of order.now.size }
     requires states { (j : ℕ) → HasBit (targets ∷ []) j → word * 64 + j < order.now.size }
-    ensures { IsTrue result ↔ ((j : ℕ) → HasBit (targets ∷ []) j → IsTargetAnswered (Holds order.now.pairs) (HasBit others.now) (word * 64 + j)) }
+    ensures { IsTrue result
+        ↔ ((j : ℕ) → HasBit (targets ∷ []) j
+        → IsTargetAnswered (Holds order.now.pairs) (HasBit others.now) (word * 64 + j)) }
 {
     let row = [targets];
     let mut at = 0;
@@ -122,12 +135,14 @@ fn is_own_answer(order: &Rel, state: u64) -> bool
     state < order.size() as u64 && order.get(state as u32, state as u32)
 }
 
-/// The states of the word with this number, 64 states to a word, that arcs of the table lead to: bit `j` stands for the state
+/// The states of the word with this number, 64 states to a word, that arcs of the table lead to:
+/// bit `j` stands for the state
 /// `64 * word + j`.
 pub fn targets_in(width: usize, word: usize, count: u32, table: &[u64]) -> u64
     requires word { word < width }
     requires table { IsTable table.now count width }
-    ensures { (j : ℕ) → j < 64 → HasBit (result ∷ []) j ↔ ((s : ℕ) × HasArc table.now count width s (word * 64 + j)) }
+    ensures { (j : ℕ) → j < 64
+        → HasBit (result ∷ []) j ↔ ((s : ℕ) × HasArc table.now count width s (word * 64 + j)) }
 {
     let mut targets = 0;
     for row in 0..count as usize {
@@ -153,7 +168,8 @@ fn mark_own_answers(order: &Rel, word: usize, states: u64, row: &mut [u64])
     }
 }
 
-/// Those of the states of the word that the order relates to themselves: an arc to one of them answers itself.
+/// Those of the states of the word that the order relates to themselves: an arc to one of them
+/// answers itself.
 fn own_answers(order: &Rel, word: usize, states: u64) -> u64
     requires word { word < 2 ^ 32 }
     requires states_fit { order.now.size < 2 ^ 32 }
@@ -164,7 +180,8 @@ fn own_answers(order: &Rel, word: usize, states: u64) -> u64
     row[0]
 }
 
-/// Tells whether each arc of the one table to a target of the word has an answer in the other table.
+/// Tells whether each arc of the one table to a target of the word has an answer in the other
+/// table.
 fn is_word_answered(
     order: &Rel,
     width: usize,
@@ -177,7 +194,9 @@ fn is_word_answered(
     requires word { word < width }
     requires arcs { IsTable arcs.now order.now.size width }
     requires other_arcs { IsTable other_arcs.now order.now.size width }
-    ensures { IsTrue result ↔ AnswersWord (Holds order.now.pairs) (HasArc arcs.now order.now.size width) (HasArc other_arcs.now order.now.size width) word }
+    ensures { IsTrue result
+        ↔ AnswersWord (Holds order.now.pairs) (HasArc arcs.now order.now.size width)
+        (HasArc other_arcs.now order.now.size width) word }
 {
     let themselves = own_answers(order, word, targets_in(width, word, order.size(), arcs));
     for row in 0..order.size() {
@@ -196,7 +215,10 @@ fn is_table_answered(order: &Rel, arcs: &[u64], other_arcs: &[u64]) -> bool
     requires states_fit { order.now.size < 2 ^ 32 }
     requires arcs { IsTable arcs.now order.now.size (width_of order.now.size) }
     requires other_arcs { IsTable other_arcs.now order.now.size (width_of order.now.size) }
-    ensures { IsTrue result ↔ AnswersArcs (Holds order.now.pairs) (HasArc arcs.now order.now.size (width_of order.now.size)) (HasArc other_arcs.now order.now.size (width_of order.now.size)) }
+    ensures { IsTrue result
+        ↔ AnswersArcs (Holds order.now.pairs)
+        (HasArc arcs.now order.now.size (width_of order.now.size))
+        (HasArc other_arcs.now order.now.size (width_of order.now.size)) }
 {
     let width = rows::words_for(order.size());
     for word in 0..width {
@@ -230,21 +252,26 @@ fn has_each_arc(states: u32, g: &[u64], h: &[u64]) -> bool
         && subset(block::past(states, g), block::past(states, h))
 }
 
-/// Is true only where the first graph covers the second: the second has all arcs of the first, and the order relates each state to itself, so each arc answers itself.
+/// Is true only where the first graph covers the second: the second has all arcs of the first, and
+/// the order relates each state to itself, so each arc answers itself.
 fn each_arc_answers_itself(order: &Rel, g: &[u64], h: &[u64]) -> bool
     requires first { IsFormed order.now.size g.now }
     requires second { IsFormed order.now.size h.now }
-    ensures { result ≡ true → Covers (Holds order.now.pairs) (block_graph order.now.size g.now) (block_graph order.now.size h.now) }
+    ensures { result ≡ true
+        → Covers (Holds order.now.pairs) (block_graph order.now.size g.now)
+        (block_graph order.now.size h.now) }
 {
     has_each_arc(order.size(), g, h) && is_reflexive(order)
 }
 
-/// Tells whether each arc of `g` has in `h` an arc from the same state, of at least its value, to some state that the order relates
-/// its target to.
+/// Tells whether each arc of `g` has in `h` an arc from the same state, of at least its value, to
+/// some state that the order relates its target to.
 pub fn covers(order: &Rel, g: &[u64], h: &[u64]) -> bool
     requires first { IsFormed order.now.size g.now }
     requires second { IsFormed order.now.size h.now }
-    ensures { IsTrue result ↔ Covers (Holds order.now.pairs) (block_graph order.now.size g.now) (block_graph order.now.size h.now) }
+    ensures { IsTrue result
+        ↔ Covers (Holds order.now.pairs) (block_graph order.now.size g.now)
+        (block_graph order.now.size h.now) }
 {
     if each_arc_answers_itself(order, g, h) {
         return true;

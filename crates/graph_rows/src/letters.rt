@@ -13,7 +13,8 @@ use crate::unions::add_union;
 use auto_core::{Auto, rows};
 use row_steps::{are_equal, next_bit};
 
-/// Joins the state of the row to the target, past an accepting state if the way to the target is or the target itself is one.
+/// Joins the state of the row to the target, past an accepting state if the way to the target is or
+/// the target itself is one.
 fn add_arc(
     automaton: &Auto,
     target: u32,
@@ -29,7 +30,9 @@ fn add_arc(
     requires joined_len { length joined.old ≡ automaton.now.states * width }
     requires past_len { length past.old ≡ automaton.now.states * width }
     ensures joined { HasAdded width row (λ q. q ≡ target) joined.old joined.new }
-    ensures past { HasAdded width row (λ q. (q ≡ target) × ((flagged ≡ true) ⊎ IsAccepting automaton.now target)) past.old past.new }
+    ensures past { HasAdded width
+        row (λ q. (q ≡ target) × ((flagged ≡ true) ⊎ IsAccepting automaton.now target)) past.old
+        past.new }
 {
     rows::set_cell(joined, width, row as usize, target as usize);
     if flagged || automaton.accepting(target) {
@@ -37,8 +40,8 @@ fn add_arc(
     }
 }
 
-/// Joins the state of the row to each state that a move with the label leads to from `from`; `flagged` tells whether the way to
-/// there passes an accepting state.
+/// Joins the state of the row to each state that a move with the label leads to from `from`;
+/// `flagged` tells whether the way to there passes an accepting state.
 pub(crate) fn add_moves(
     automaton: &Auto,
     label: u32,
@@ -54,8 +57,11 @@ pub(crate) fn add_moves(
     requires is_row { row < automaton.now.states }
     requires joined_len { length joined.old ≡ automaton.now.states * width }
     requires past_len { length past.old ≡ automaton.now.states * width }
-    ensures joined { HasAdded width row (λ q. Moves automaton.now from label q) joined.old joined.new }
-    ensures past { HasAdded width row (λ q. Moves automaton.now from label q × ((flagged ≡ true) ⊎ IsAccepting automaton.now q)) past.old past.new }
+    ensures joined { HasAdded width row (λ q. Moves automaton.now from label q) joined.old
+        joined.new }
+    ensures past { HasAdded width
+        row (λ q. Moves automaton.now from label q
+        × ((flagged ≡ true) ⊎ IsAccepting automaton.now q)) past.old past.new }
 {
     let span = automaton.successors(from, label);
     let transitions = automaton.transitions();
@@ -77,8 +83,9 @@ fn are_within(row: &[u64], other: &[u64]) -> bool
     }
 }
 
-/// Extends the arcs out of the state of the row, which is empty, by the moves with the label: those past an accepting state by all moves in
-/// both tables, then, where there are others, all in the first and by the moves to accepting states in the second.
+/// Extends the arcs out of the state of the row, which is empty, by the moves with the label: those
+/// past an accepting state by all moves in both tables, then, where there are others, all in the
+/// first and by the moves to accepting states in the second.
 fn add_row(
     automaton: &Auto,
     label: u32,
@@ -98,13 +105,22 @@ fn add_row(
     requires from_past { IsTable from_past.now automaton.now.states width }
     requires letter_joined { IsTable letter_joined.now automaton.now.states width }
     requires letter_past { IsTable letter_past.now automaton.now.states width }
-    requires letter { SameGraph (graph_of_tables letter_joined.now letter_past.now automaton.now.states width) (letter_graph automaton.now label) }
-    requires within { IsGraph (graph_of_tables from_joined.now from_past.now automaton.now.states width) }
+    requires letter { SameGraph
+        (graph_of_tables letter_joined.now letter_past.now automaton.now.states width)
+        (letter_graph automaton.now label) }
+    requires within { IsGraph
+        (graph_of_tables from_joined.now from_past.now automaton.now.states width) }
     requires joined_len { length joined.old ≡ automaton.now.states * width }
     requires past_len { length past.old ≡ automaton.now.states * width }
     requires empty { (q : ℕ) → q < width * 64 → cell_of past.old width row q ≡ false }
-    ensures joined { HasAdded width row ((extended automaton.now (graph_of_tables from_joined.now from_past.now automaton.now.states width) label).joined row) joined.old joined.new }
-    ensures past { HasAdded width row ((extended automaton.now (graph_of_tables from_joined.now from_past.now automaton.now.states width) label).past row) past.old past.new }
+    ensures joined { HasAdded width row
+        ((extended automaton.now
+        (graph_of_tables from_joined.now from_past.now automaton.now.states width) label).joined
+        row) joined.old joined.new }
+    ensures past { HasAdded width row
+        ((extended automaton.now
+        (graph_of_tables from_joined.now from_past.now automaton.now.states width) label).past row)
+        past.old past.new }
 {
     let states = automaton.states();
     let reached = rows::row_at(from_joined, width, row as usize);
@@ -128,7 +144,8 @@ fn write_letter(automaton: &Auto, label: u32, width: usize, joined: &mut [u64], 
     requires past_len { length past.old ≡ automaton.now.states * width }
     ensures joined { IsTable joined.new automaton.now.states width }
     ensures past { IsTable past.new automaton.now.states width }
-    ensures graph { SameGraph (graph_of_tables joined.new past.new automaton.now.states width) (letter_graph automaton.now label) }
+    ensures graph { SameGraph (graph_of_tables joined.new past.new automaton.now.states width)
+        (letter_graph automaton.now label) }
 {
     rows::clear_row(joined);
     rows::clear_row(past);
@@ -165,7 +182,8 @@ fn place_of(table: &[u64], width: usize, row: u32) -> usize
 fn are_same(table: &[u64], width: usize, row: u32, other: u32) -> bool
     requires row { row * width + width ≤ length table.now }
     requires other { other * width + width ≤ length table.now }
-    ensures { result ≡ true → (q : ℕ) → q < width * 64 → cell_of table.now width row q ≡ cell_of table.now width other q }
+    ensures { result ≡ true → (q : ℕ) → q < width * 64
+        → cell_of table.now width row q ≡ cell_of table.now width other q }
 {
     are_equal(
         rows::row_at(table, width, row as usize),
@@ -173,12 +191,15 @@ fn are_same(table: &[u64], width: usize, row: u32, other: u32) -> bool
     )
 }
 
-/// The other state, if it comes before the state of the row and has the same rows in both tables; else the state of the row.
+/// The other state, if it comes before the state of the row and has the same rows in both tables;
+/// else the state of the row.
 fn twin_of(other: u32, joined: &[u64], past: &[u64], width: usize, row: u32) -> u32
     requires joined { row * width + width ≤ length joined.now }
     requires past { row * width + width ≤ length past.now }
-    ensures joined { (q : ℕ) → q < width * 64 → cell_of joined.now width row q ≡ cell_of joined.now width result q }
-    ensures past { (q : ℕ) → q < width * 64 → cell_of past.now width row q ≡ cell_of past.now width result q }
+    ensures joined { (q : ℕ) → q < width * 64
+        → cell_of joined.now width row q ≡ cell_of joined.now width result q }
+    ensures past { (q : ℕ) → q < width * 64
+        → cell_of past.now width row q ≡ cell_of past.now width result q }
     ensures most { result ≤ row }
 {
     if other >= row {
@@ -197,8 +218,10 @@ fn twin_of(other: u32, joined: &[u64], past: &[u64], width: usize, row: u32) -> 
 fn copy_row(table: &mut [u64], width: usize, from: u32, to: u32)
     requires before { from < to }
     requires row { to * width + width ≤ length table.old }
-    ensures here { (q : ℕ) → q < width * 64 → cell_of table.new width to q ≡ cell_of table.old width from q }
-    ensures others { (r q : ℕ) → q < width * 64 → ¬ (r ≡ to) → cell_of table.new width r q ≡ cell_of table.old width r q }
+    ensures here { (q : ℕ) → q < width * 64
+        → cell_of table.new width to q ≡ cell_of table.old width from q }
+    ensures others { (r q : ℕ) → q < width * 64 → ¬ (r ≡ to)
+        → cell_of table.new width r q ≡ cell_of table.old width r q }
 {
     for j in 0..width {
         table[to as usize * width + j] = table[from as usize * width + j];
@@ -221,13 +244,18 @@ fn write_extension(
     requires from_past { IsTable from_past.now automaton.now.states width }
     requires letter_joined { IsTable letter_joined.now automaton.now.states width }
     requires letter_past { IsTable letter_past.now automaton.now.states width }
-    requires letter { SameGraph (graph_of_tables letter_joined.now letter_past.now automaton.now.states width) (letter_graph automaton.now label) }
-    requires within { IsGraph (graph_of_tables from_joined.now from_past.now automaton.now.states width) }
+    requires letter { SameGraph
+        (graph_of_tables letter_joined.now letter_past.now automaton.now.states width)
+        (letter_graph automaton.now label) }
+    requires within { IsGraph
+        (graph_of_tables from_joined.now from_past.now automaton.now.states width) }
     requires joined_len { length joined.old ≡ automaton.now.states * width }
     requires past_len { length past.old ≡ automaton.now.states * width }
     ensures joined { IsTable joined.new automaton.now.states width }
     ensures past { IsTable past.new automaton.now.states width }
-    ensures graph { SameGraph (graph_of_tables joined.new past.new automaton.now.states width) (extended automaton.now (graph_of_tables from_joined.now from_past.now automaton.now.states width) label) }
+    ensures graph { SameGraph (graph_of_tables joined.new past.new automaton.now.states width)
+        (extended automaton.now
+        (graph_of_tables from_joined.now from_past.now automaton.now.states width) label) }
 {
     rows::clear_row(joined);
     rows::clear_row(past);
@@ -262,7 +290,8 @@ fn write_extension(
 pub fn letter(automaton: &Auto, label: u32, out: &mut [u64])
     requires { length out.old ≡ 2 * automaton.now.states * width_of automaton.now.states }
     ensures formed { IsFormed automaton.now.states out.new }
-    ensures graph { SameGraph (block_graph automaton.now.states out.new) (letter_graph automaton.now label) }
+    ensures graph { SameGraph (block_graph automaton.now.states out.new)
+        (letter_graph automaton.now label) }
 {
     let states = automaton.states();
     let width = rows::words_for(states);
@@ -270,14 +299,17 @@ pub fn letter(automaton: &Auto, label: u32, out: &mut [u64])
     write_letter(automaton, label, width, joined, past);
 }
 
-/// Writes the graph that has each arc of `from`, followed by each move with the label, by the graph of the letter.
+/// Writes the graph that has each arc of `from`, followed by each move with the label, by the graph
+/// of the letter.
 pub fn extend_by(automaton: &Auto, label: u32, letter: &[u64], from: &[u64], out: &mut [u64])
     requires letter { IsFormed automaton.now.states letter.now }
-    requires is_letter { SameGraph (block_graph automaton.now.states letter.now) (letter_graph automaton.now label) }
+    requires is_letter { SameGraph (block_graph automaton.now.states letter.now)
+        (letter_graph automaton.now label) }
     requires formed { IsFormed automaton.now.states from.now }
     requires len { length out.old ≡ 2 * automaton.now.states * width_of automaton.now.states }
     ensures formed { IsFormed automaton.now.states out.new }
-    ensures graph { SameGraph (block_graph automaton.now.states out.new) (extended automaton.now (block_graph automaton.now.states from.now) label) }
+    ensures graph { SameGraph (block_graph automaton.now.states out.new)
+        (extended automaton.now (block_graph automaton.now.states from.now) label) }
 {
     let states = automaton.states();
     let width = rows::words_for(states);

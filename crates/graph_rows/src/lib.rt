@@ -1,5 +1,6 @@
-//! Graphs of words over the states of one automaton, in blocks of bits: two planes of rows, one row for each state. The first
-//! plane has the pairs of states that are joined, the second those that are joined past an accepting state.
+//! Graphs of words over the states of one automaton, in blocks of bits: two planes of rows, one row
+//! for each state. The first plane has the pairs of states that are joined, the second those that
+//! are joined past an accepting state.
 #![tactic(auto)]
 
 mod block;

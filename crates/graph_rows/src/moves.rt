@@ -27,11 +27,18 @@ fn extend_row(
     requires is_row { row < automaton.now.states }
     requires from_joined { IsTable from_joined.now automaton.now.states width }
     requires from_past { IsTable from_past.now automaton.now.states width }
-    requires within { IsGraph (graph_of_tables from_joined.now from_past.now automaton.now.states width) }
+    requires within { IsGraph
+        (graph_of_tables from_joined.now from_past.now automaton.now.states width) }
     requires joined_len { length joined.old ≡ automaton.now.states * width }
     requires past_len { length past.old ≡ automaton.now.states * width }
-    ensures joined { HasAdded width row ((extended automaton.now (graph_of_tables from_joined.now from_past.now automaton.now.states width) label).joined row) joined.old joined.new }
-    ensures past { HasAdded width row ((extended automaton.now (graph_of_tables from_joined.now from_past.now automaton.now.states width) label).past row) past.old past.new }
+    ensures joined { HasAdded width row
+        ((extended automaton.now
+        (graph_of_tables from_joined.now from_past.now automaton.now.states width) label).joined
+        row) joined.old joined.new }
+    ensures past { HasAdded width row
+        ((extended automaton.now
+        (graph_of_tables from_joined.now from_past.now automaton.now.states width) label).past row)
+        past.old past.new }
 {
     let reached = rows::row_at(from_joined, width, row as usize);
     let mut at = 0;
@@ -64,12 +71,15 @@ fn extend_rows(
     requires few { width < 2 ^ 32 }
     requires from_joined { IsTable from_joined.now automaton.now.states width }
     requires from_past { IsTable from_past.now automaton.now.states width }
-    requires within { IsGraph (graph_of_tables from_joined.now from_past.now automaton.now.states width) }
+    requires within { IsGraph
+        (graph_of_tables from_joined.now from_past.now automaton.now.states width) }
     requires joined_len { length joined.old ≡ automaton.now.states * width }
     requires past_len { length past.old ≡ automaton.now.states * width }
     ensures joined { IsTable joined.new automaton.now.states width }
     ensures past { IsTable past.new automaton.now.states width }
-    ensures graph { SameGraph (graph_of_tables joined.new past.new automaton.now.states width) (extended automaton.now (graph_of_tables from_joined.now from_past.now automaton.now.states width) label) }
+    ensures graph { SameGraph (graph_of_tables joined.new past.new automaton.now.states width)
+        (extended automaton.now
+        (graph_of_tables from_joined.now from_past.now automaton.now.states width) label) }
 {
     rows::clear_row(joined);
     rows::clear_row(past);
@@ -92,7 +102,8 @@ pub fn extend(automaton: &Auto, label: u32, from: &[u64], out: &mut [u64])
     requires formed { IsFormed automaton.now.states from.now }
     requires len { length out.old ≡ 2 * automaton.now.states * width_of automaton.now.states }
     ensures formed { IsFormed automaton.now.states out.new }
-    ensures graph { SameGraph (block_graph automaton.now.states out.new) (extended automaton.now (block_graph automaton.now.states from.now) label) }
+    ensures graph { SameGraph (block_graph automaton.now.states out.new)
+        (extended automaton.now (block_graph automaton.now.states from.now) label) }
 {
     let states = automaton.states();
     let width = rows::words_for(states);

@@ -14,13 +14,14 @@ use bit_rel::Rel;
 /// Up to so many states, a print tells of each pair of states.
 const MOST_FOLDED: u32 = 24;
 
-/// By how much the numbers rise that are spread over the states for the first state of a picked pair, and for the second.
+/// By how much the numbers rise that are spread over the states for the first state of a picked
+/// pair, and for the second.
 const SOURCE_STEP: u32 = 2_654_435_769;
 
 const TARGET_STEP: u32 = 2_246_822_519;
 
-/// What a graph says of pairs of states by 64 bits, each of which is asked about some pairs: which of them it has, and to which of them it has an
-/// answer.
+/// What a graph says of pairs of states by 64 bits, each of which is asked about some pairs: which
+/// of them it has, and to which of them it has an answer.
 #[derive(Clone, Copy, Debug)]
 pub struct PairBits {
     /// Which of the pairs the graph has.
@@ -29,8 +30,8 @@ pub struct PairBits {
     pub answered: u64,
 }
 
-/// What a graph says of pairs of states: of 64 that are picked, by a bit each; and, where there are few states, of each pair, by a bit that it
-/// shares with others.
+/// What a graph says of pairs of states: of 64 that are picked, by a bit each; and, where there are
+/// few states, of each pair, by a bit that it shares with others.
 #[derive(Clone, Copy, Debug)]
 pub struct Print {
     /// Of the picked pairs, a bit for each.
@@ -49,7 +50,8 @@ fn folded_bit(p: u32, q: u32) -> u32
     (p * 37 + q * 11) % 64
 }
 
-/// The state at which the j-th multiple of the step falls, where the numbers below 2^32 are spread over the n states.
+/// The state at which the j-th multiple of the step falls, where the numbers below 2^32 are spread
+/// over the n states.
 fn spread(n: u32, step: u32, j: u32) -> u32
     requires some { 1 ≤ n }
     requires few { j < 64 }
@@ -91,12 +93,14 @@ fn has_picked(order: &Rel, g: &[u64], j: u32, p: u32, q: u32) -> bool
     if j % 2 == 1 { value == 2 } else { value >= 1 }
 }
 
-/// Tells whether the graph has an answer to the pair of these states, past an accepting state or not.
+/// Tells whether the graph has an answer to the pair of these states, past an accepting state or
+/// not.
 fn answers_pair(order: &Rel, g: &[u64], p: u32, q: u32, past: bool) -> bool
     requires formed { IsFormed order.now.size g.now }
     requires left { p < order.now.size }
     requires right { q < order.now.size }
-    ensures { result ≡ false → HasNoAnswer (Holds order.now.pairs) (block_graph order.now.size g.now) past p q }
+    ensures { result ≡ false
+        → HasNoAnswer (Holds order.now.pairs) (block_graph order.now.size g.now) past p q }
 {
     let n = order.size();
     let (joined, marked) = (block::joined(n, g), block::past(n, g));
@@ -109,8 +113,11 @@ fn mark_picked(order: &Rel, g: &[u64], own: &mut [u64], answered: &mut [u64])
     requires some { 1 ≤ order.now.size }
     requires own { own.old ≡ 0 ∷ [] }
     requires answered { answered.old ≡ 0 ∷ [] }
-    ensures own { (x : ℕ) → own.new ≡ x ∷ [] → HasOwn (IsPicked order.now.size) (block_graph order.now.size g.now) x }
-    ensures answered { (x : ℕ) → answered.new ≡ x ∷ [] → HasAnswered (IsPicked order.now.size) (Holds order.now.pairs) (block_graph order.now.size g.now) x }
+    ensures own { (x : ℕ) → own.new ≡ x ∷ []
+        → HasOwn (IsPicked order.now.size) (block_graph order.now.size g.now) x }
+    ensures answered { (x : ℕ) → answered.new ≡ x ∷ []
+        → HasAnswered (IsPicked order.now.size) (Holds order.now.pairs)
+        (block_graph order.now.size g.now) x }
 {
     let n = order.size();
     for j in 0..64 {
@@ -133,8 +140,11 @@ fn mark_pair(order: &Rel, g: &[u64], p: u32, q: u32, own: &mut [u64], answered: 
     requires right { q < order.now.size }
     requires own { length own.old ≡ 1 }
     requires answered { length answered.old ≡ 1 }
-    ensures own { (j : ℕ) → HasBit own.new j → HasBit own.old j ⊎ ((folded_bit p q ≡ j) × (block_graph order.now.size g.now).joined p q) }
-    ensures answered { bit_of answered.new (folded_bit p q) ≡ false → HasNoAnswer (Holds order.now.pairs) (block_graph order.now.size g.now) false p q }
+    ensures own { (j : ℕ) → HasBit own.new j
+        → HasBit own.old j
+        ⊎ ((folded_bit p q ≡ j) × (block_graph order.now.size g.now).joined p q) }
+    ensures answered { bit_of answered.new (folded_bit p q) ≡ false
+        → HasNoAnswer (Holds order.now.pairs) (block_graph order.now.size g.now) false p q }
     ensures stay { (j : ℕ) → HasBit answered.old j → HasBit answered.new j }
     ensures own_len { length own.new ≡ 1 }
     ensures answered_len { length answered.new ≡ 1 }
@@ -155,8 +165,12 @@ fn mark_row(order: &Rel, g: &[u64], p: u32, own: &mut [u64], answered: &mut [u64
     requires left { p < order.now.size }
     requires own { length own.old ≡ 1 }
     requires answered { length answered.old ≡ 1 }
-    ensures own { (j : ℕ) → HasBit own.new j → HasBit own.old j ⊎ ((q : ℕ) × (q < order.now.size) × (folded_bit p q ≡ j) × (block_graph order.now.size g.now).joined p q) }
-    ensures answered { (q : ℕ) → q < order.now.size → bit_of answered.new (folded_bit p q) ≡ false → HasNoAnswer (Holds order.now.pairs) (block_graph order.now.size g.now) false p q }
+    ensures own { (j : ℕ) → HasBit own.new j
+        → HasBit own.old j
+        ⊎ ((q : ℕ) × (q < order.now.size) × (folded_bit p q ≡ j)
+        × (block_graph order.now.size g.now).joined p q) }
+    ensures answered { (q : ℕ) → q < order.now.size → bit_of answered.new (folded_bit p q) ≡ false
+        → HasNoAnswer (Holds order.now.pairs) (block_graph order.now.size g.now) false p q }
     ensures stay { (j : ℕ) → HasBit answered.old j → HasBit answered.new j }
     ensures own_len { length own.new ≡ 1 }
     ensures answered_len { length answered.new ≡ 1 }
@@ -172,8 +186,11 @@ fn mark_all(order: &Rel, g: &[u64], own: &mut [u64], answered: &mut [u64])
     requires few { order.now.size ≤ MOST_FOLDED }
     requires own { own.old ≡ 0 ∷ [] }
     requires answered { answered.old ≡ 0 ∷ [] }
-    ensures own { (x : ℕ) → own.new ≡ x ∷ [] → HasOwn (IsFolded order.now.size) (block_graph order.now.size g.now) x }
-    ensures answered { (x : ℕ) → answered.new ≡ x ∷ [] → HasAnswered (IsFolded order.now.size) (Holds order.now.pairs) (block_graph order.now.size g.now) x }
+    ensures own { (x : ℕ) → own.new ≡ x ∷ []
+        → HasOwn (IsFolded order.now.size) (block_graph order.now.size g.now) x }
+    ensures answered { (x : ℕ) → answered.new ≡ x ∷ []
+        → HasAnswered (IsFolded order.now.size) (Holds order.now.pairs)
+        (block_graph order.now.size g.now) x }
 {
     for p in 0..order.size() {
         mark_row(order, g, p, own, answered);
@@ -183,7 +200,8 @@ fn mark_all(order: &Rel, g: &[u64], own: &mut [u64], answered: &mut [u64])
 /// The bits of the picked pairs.
 fn picked_bits(order: &Rel, g: &[u64]) -> PairBits
     requires formed { IsFormed order.now.size g.now }
-    ensures { AreBitsOf (IsPicked order.now.size) (Holds order.now.pairs) (block_graph order.now.size g.now) result }
+    ensures { AreBitsOf (IsPicked order.now.size) (Holds order.now.pairs)
+        (block_graph order.now.size g.now) result }
 {
     if order.size() == 0 {
         return PairBits {
@@ -203,7 +221,8 @@ fn picked_bits(order: &Rel, g: &[u64]) -> PairBits
 /// The bits that all pairs of few states share.
 fn folded_bits(order: &Rel, g: &[u64]) -> PairBits
     requires formed { IsFormed order.now.size g.now }
-    ensures { AreBitsOf (IsFolded order.now.size) (Holds order.now.pairs) (block_graph order.now.size g.now) result }
+    ensures { AreBitsOf (IsFolded order.now.size) (Holds order.now.pairs)
+        (block_graph order.now.size g.now) result }
 {
     let mut own = [0];
     let mut answered = [0];
@@ -234,7 +253,8 @@ fn misses_at(first: &PairBits, second: &PairBits) -> bool
     first.own & !second.answered != 0
 }
 
-/// Tells whether the second graph has no answer to a pair that the first has: then the first does not cover the second.
+/// Tells whether the second graph has no answer to a pair that the first has: then the first does
+/// not cover the second.
 pub fn misses(first: &Print, second: &Print) -> bool
     ensures { IsTrue result ↔ Misses first.now second.now }
 {

@@ -1,5 +1,5 @@
-//! Rows of a table joined over marks: the first words of each and its last ones are gathered, where few words make a row, and then added
-//! at once.
+//! Rows of a table joined over marks: the first words of each and its last ones are gathered, where
+//! few words make a row, and then added at once.
 
 ghost use Rattle.std.specs.Prelude.{◌≡◌, ◌+◌, ◌-◌, ◌*◌, ◌^◌, ◌<◌, ◌≤◌, ◌||◌, ◌↔◌, ◌⊎◌, ℕ, length};
 ghost use Rattle.auto_core.specs.Rows.{HasBit, bit_of, cell_of};
@@ -16,14 +16,16 @@ const MOST_SHORT: usize = 8;
 fn join_words<const N: usize>(into: &mut [u64], row: &[u64], first: usize)
     requires len { length into.old ≡ N }
     requires within { first + N ≤ length row.now }
-    ensures { (i : ℕ) → i < N * 64 → bit_of into.new i ≡ (bit_of into.old i || bit_of row.now (first * 64 + i)) }
+    ensures { (i : ℕ) → i < N * 64
+        → bit_of into.new i ≡ (bit_of into.old i || bit_of row.now (first * 64 + i)) }
 {
     for j in 0..N {
         into[j] |= row[first + j];
     }
 }
 
-/// Sets in the row of the table, from this word of it on, each bit that the words have, and leaves the others.
+/// Sets in the row of the table, from this word of it on, each bit that the words have, and leaves
+/// the others.
 fn add_words<const N: usize>(
     table: &mut [u64],
     width: usize,
@@ -36,8 +38,10 @@ fn add_words<const N: usize>(
     requires within { first + N ≤ width }
     ensures here { (i : ℕ) → i < N * 64
         → cell_of table.new width row (first * 64 + i) ≡ (cell_of table.old width row (first * 64 + i) || bit_of words.now i) }
-    ensures beside { (q : ℕ) → q < width * 64 → (q < first * 64) ⊎ ((first + N) * 64 ≤ q) → cell_of table.new width row q ≡ cell_of table.old width row q }
-    ensures others { (r q : ℕ) → q < width * 64 → ¬ (r ≡ row) → cell_of table.new width r q ≡ cell_of table.old width r q }
+    ensures beside { (q : ℕ) → q < width * 64 → (q < first * 64) ⊎ ((first + N) * 64 ≤ q)
+        → cell_of table.new width row q ≡ cell_of table.old width row q }
+    ensures others { (r q : ℕ) → q < width * 64 → ¬ (r ≡ row)
+        → cell_of table.new width r q ≡ cell_of table.old width r q }
 {
     for j in 0..N {
         table[row * width + first + j] |= words[j];
@@ -60,8 +64,10 @@ fn gather<const N: usize>(
     requires half { N ≤ width }
     requires low_len { length low.old ≡ N }
     requires high_len { length high.old ≡ N }
-    ensures low { IsUnionOfRows (HasBit marks.now) (HasArc table.now count width) 0 (N * 64) low.new }
-    ensures high { IsUnionOfRows (HasBit marks.now) (HasArc table.now count width) ((width - N) * 64) (N * 64) high.new }
+    ensures low { IsUnionOfRows (HasBit marks.now) (HasArc table.now count width) 0 (N * 64)
+        low.new }
+    ensures high { IsUnionOfRows (HasBit marks.now) (HasArc table.now count width)
+        ((width - N) * 64) (N * 64) high.new }
 {
     rows::clear_row(low);
     rows::clear_row(high);
@@ -74,7 +80,8 @@ fn gather<const N: usize>(
     }
 }
 
-/// Adds the rows of the table, joined over the marks, to the row of the other table, by words for the first half and for the last one.
+/// Adds the rows of the table, joined over the marks, to the row of the other table, by words for
+/// the first half and for the last one.
 fn add_ends<const N: usize>(
     table: &[u64],
     count: u32,
@@ -91,7 +98,8 @@ fn add_ends<const N: usize>(
     requires half { N ≤ width }
     requires halves { width ≤ N + N }
     requires len { length into.old ≡ count * width }
-    ensures { HasAdded width row (FollowsFrom (HasBit marks.now) (HasArc table.now count width)) into.old into.new }
+    ensures { HasAdded width row (FollowsFrom (HasBit marks.now) (HasArc table.now count width))
+        into.old into.new }
 {
     let mut low = [0; N];
     let mut high = [0; N];
@@ -104,18 +112,23 @@ fn add_ends<const N: usize>(
 fn add_long_row(table: &mut [u64], width: usize, row: usize, from: &[u64])
     requires row { row * width + width ≤ length table.old }
     requires equal { length from.now ≡ width }
-    ensures here { (q : ℕ) → q < width * 64 → cell_of table.new width row q ≡ (cell_of table.old width row q || bit_of from.now q) }
-    ensures others { (r q : ℕ) → q < width * 64 → ¬ (r ≡ row) → cell_of table.new width r q ≡ cell_of table.old width r q }
+    ensures here { (q : ℕ) → q < width * 64
+        → cell_of table.new width row q ≡ (cell_of table.old width row q || bit_of from.now q) }
+    ensures others { (r q : ℕ) → q < width * 64 → ¬ (r ≡ row)
+        → cell_of table.new width r q ≡ cell_of table.old width r q }
 {
     rows::or_into(&mut table[row * width..row * width + width], from);
 }
 
-/// Adds the bits of the other row to the row of the table: long rows by lanes, which in short ones cost more than they save.
+/// Adds the bits of the other row to the row of the table: long rows by lanes, which in short ones
+/// cost more than they save.
 fn add_whole_row(table: &mut [u64], width: usize, row: usize, from: &[u64])
     requires row { row * width + width ≤ length table.old }
     requires equal { length from.now ≡ width }
-    ensures here { (q : ℕ) → q < width * 64 → cell_of table.new width row q ≡ (cell_of table.old width row q || bit_of from.now q) }
-    ensures others { (r q : ℕ) → q < width * 64 → ¬ (r ≡ row) → cell_of table.new width r q ≡ cell_of table.old width r q }
+    ensures here { (q : ℕ) → q < width * 64
+        → cell_of table.new width row q ≡ (cell_of table.old width row q || bit_of from.now q) }
+    ensures others { (r q : ℕ) → q < width * 64 → ¬ (r ≡ row)
+        → cell_of table.new width r q ≡ cell_of table.old width r q }
 {
     if width > MOST_SHORT {
         add_long_row(table, width, row, from);
@@ -124,7 +137,8 @@ fn add_whole_row(table: &mut [u64], width: usize, row: usize, from: &[u64])
     }
 }
 
-/// Adds the rows of the table to the row of the other table one after the other, those that the marks stand for.
+/// Adds the rows of the table to the row of the other table one after the other, those that the
+/// marks stand for.
 fn add_rows(table: &[u64], count: u32, width: usize, marks: &[u64], row: u32, into: &mut [u64])
     requires table { IsTable table.now count width }
     requires few { width < 2 ^ 32 }
@@ -132,7 +146,8 @@ fn add_rows(table: &[u64], count: u32, width: usize, marks: &[u64], row: u32, in
     requires marks_below { MarksBelow marks.now count }
     requires is_row { row < count }
     requires len { length into.old ≡ count * width }
-    ensures { HasAdded width row (FollowsFrom (HasBit marks.now) (HasArc table.now count width)) into.old into.new }
+    ensures { HasAdded width row (FollowsFrom (HasBit marks.now) (HasArc table.now count width))
+        into.old into.new }
 {
     let mut at = 0;
     while let Some(middle) = next_bit(marks, at) {
@@ -161,7 +176,8 @@ pub(crate) fn add_union(
     requires marks_below { MarksBelow marks.now count }
     requires is_row { row < count }
     requires len { length into.old ≡ count * width }
-    ensures { HasAdded width row (FollowsFrom (HasBit marks.now) (HasArc table.now count width)) into.old into.new }
+    ensures { HasAdded width row (FollowsFrom (HasBit marks.now) (HasArc table.now count width))
+        into.old into.new }
 {
     if width == 0 || width > MOST_SHORT {
         add_rows(table, count, width, marks, row, into);

@@ -18,4 +18,5 @@ GreatestAcrossIsThere = (A B : Automaton) (k : ℕ) → (S : List (ℕ × ℕ)) 
 
 -- There is a greatest delayed relation with n announced letters, with its least ranks.
 abbrev pub GreatestDelayedIsThere : Type 0
-GreatestDelayedIsThere = (A : Automaton) (n : ℕ) → 1 ≤ n → (X : RankedTriples) × IsGreatestDelayed A n X
+GreatestDelayedIsThere =
+    (A : Automaton) (n : ℕ) → 1 ≤ n → (X : RankedTriples) × IsGreatestDelayed A n X

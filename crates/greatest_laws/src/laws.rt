@@ -18,7 +18,8 @@ pub fn a_greatest_relation_across_is_there()
     ensures { GreatestAcrossIsThere }
 {}
 
-/// Each automaton has a greatest delayed relation with each number of announced letters, with its least ranks.
+/// Each automaton has a greatest delayed relation with each number of announced letters, with its
+/// least ranks.
 pub fn a_greatest_delayed_relation_is_there()
     ensures { GreatestDelayedIsThere }
 {}
@@ -28,7 +29,8 @@ pub fn one_letter_triples_are_pairs()
     ensures { OneLetterTriplesArePairs }
 {}
 
-/// They are right exactly where the pairs are: each move is answered, a pair whose left state is accepting has a rank, and ranks fall.
+/// They are right exactly where the pairs are: each move is answered, a pair whose left state is
+/// accepting has a rank, and ranks fall.
 pub fn one_letter_is_pairs()
     ensures { OneLetterIsPairs }
 {}

@@ -1,4 +1,5 @@
-//! That there are greatest relations, and that with one announced letter they are relations of pairs: each law is the contract of a function that does nothing.
+//! That there are greatest relations, and that with one announced letter they are relations of
+//! pairs: each law is the contract of a function that does nothing.
 #![tactic(auto)]
 
 mod laws;

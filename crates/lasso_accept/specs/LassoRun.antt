@@ -5,9 +5,9 @@ use Rattle.auto_core.specs.Run.{PathBy, end_of, some_accepting, repeated}
 use Rattle.auto_core.specs.Accept.{AcceptsLasso}
 use Rattle.lasso_accept.specs.declared.runs.LassoRun.{LassoRun}
 
--- The places are the initial state, then the states of a path on the prefix u and `before` times the loop v, then those of
--- a path on `turns` times the loop that goes on from there. There is at least one such turn; the turns end in the state in
--- which they began, and pass an accepting state.
+-- The places are the initial state, then the states of a path on the prefix u and `before` times
+-- the loop v, then those of a path on `turns` times the loop that goes on from there. There is at
+-- least one such turn; the turns end in the state in which they began, and pass an accepting state.
 pub record IsLassoRun (A : Automaton) (u v : List ℕ) (run : LassoRun) : Type 0 where
   pub entering : List ℕ
   pub turning : List ℕ
@@ -20,4 +20,5 @@ pub record IsLassoRun (A : Automaton) (u v : List ℕ) (run : LassoRun) : Type 0
 
 -- Such a run exists just where the lasso is accepted.
 abbrev pub RunsTellAcceptance : Type 0
-RunsTellAcceptance = (A : Automaton) (u v : List ℕ) → ((run : LassoRun) × IsLassoRun A u v run) ↔ AcceptsLasso A u v
+RunsTellAcceptance =
+    (A : Automaton) (u v : List ℕ) → ((run : LassoRun) × IsLassoRun A u v run) ↔ AcceptsLasso A u v

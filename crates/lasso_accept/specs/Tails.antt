@@ -7,7 +7,10 @@ use Rattle.lasso_accept.specs.declared.tails.Tails.{Tails}
 
 -- If the word has so many letters, the tables are those of its last ones.
 abbrev pub IsTail : Automaton → List ℕ → Tail → Type 0
-IsTail A w t = t.length ≤ length w → ArePlanes A (drop (length w - t.length) w) ((A.states + 63) / 64) t.planes.any.items t.planes.flagged.items
+IsTail A w t =
+    t.length ≤ length w
+    → ArePlanes A (drop (length w - t.length) w) ((A.states + 63) / 64) t.planes.any.items
+    t.planes.flagged.items
 
 abbrev pub AreTails : Automaton → List ℕ → List Tail → Type 0
 AreTails A w kept = All (IsTail A w) kept

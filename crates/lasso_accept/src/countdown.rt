@@ -10,8 +10,8 @@ use crate::tables;
 use auto_core::{Memory, reach, rows};
 use std::alloc::Global;
 
-/// The first place that is reached from the marks and that a flagged arc leaves which leads back to it. The marks are left on
-/// all that is reached; `back` and `done` are room for one row each.
+/// The first place that is reached from the marks and that a flagged arc leaves which leads back to
+/// it. The marks are left on all that is reached; `back` and `done` are room for one row each.
 pub fn turning_place(
     any: &[u64],
     flagged: &[u64],
@@ -31,7 +31,9 @@ pub fn turning_place(
     ensures found { IfSome result (λ at. (at < count)
         × ((start : ℕ) × HasBit marks.old start × Close (HasArc any.now count width) start at)
         × ReturnsTo (HasArc any.now count width) (HasArc flagged.now count width) at) }
-    ensures none { IfNone result (HasFlaggedCycle (HasArc any.now count width) (HasArc flagged.now count width) marks.old → ⊥) }
+    ensures none { IfNone result
+        (HasFlaggedCycle (HasArc any.now count width) (HasArc flagged.now count width) marks.old
+        → ⊥) }
 {
     reach::reach(any, count, width, marks, done);
     for at in 0..count as usize {
@@ -45,7 +47,8 @@ pub fn turning_place(
     None
 }
 
-/// Tells whether the first table has the cell at `place` and `q`, and the second that at `at` and `q`.
+/// Tells whether the first table has the cell at `place` and `q`, and the second that at `at` and
+/// `q`.
 fn both_have(any: &[u64], table: &[u64], width: usize, place: usize, at: usize, q: usize) -> bool
     requires place_in { place * width + width ≤ length any.now }
     requires at_in { at * width + width ≤ length table.now }
@@ -61,7 +64,8 @@ fn leads_into(any: &[u64], count: u32, width: usize, place: usize, table: &[u64]
     requires place_in { place < count }
     requires at_in { at < count }
     requires len { length table.now ≡ count * width }
-    ensures { IsTrue result ↔ ((q : ℕ) × HasArc any.now count width place q × HasCell table.now width at q) }
+    ensures { IsTrue result
+        ↔ ((q : ℕ) × HasArc any.now count width place q × HasCell table.now width at q) }
 {
     for q in 0..count as usize {
         if both_have(any, table, width, place, at, q) {
@@ -80,7 +84,8 @@ fn write_next(any: &[u64], count: u32, width: usize, table: &mut [u64], at: usiz
         → p < count
         → HasCell table.new width (at + 1) p
         ↔ (HasCell table.old width (at + 1) p ⊎ ((q : ℕ) × HasArc any.now count width p q × HasCell table.old width at q)) }
-    ensures others { (r q : ℕ) → q < width * 64 → ¬ (r ≡ at + 1) → cell_of table.new width r q ≡ cell_of table.old width r q }
+    ensures others { (r q : ℕ) → q < width * 64 → ¬ (r ≡ at + 1)
+        → cell_of table.new width r q ≡ cell_of table.old width r q }
 {
     for place in 0..count as usize {
         if leads_into(any, count, width, place, table, at) {
@@ -103,7 +108,8 @@ fn write_countdown(any: &[u64], count: u32, width: usize, target: usize, table: 
     }
 }
 
-/// For each number below `count` the row of the places from which just so many arcs lead to the target.
+/// For each number below `count` the row of the places from which just so many arcs lead to the
+/// target.
 pub fn countdown_to(
     alloc: Global,
     any: &[u64],
@@ -114,7 +120,8 @@ pub fn countdown_to(
     requires any { IsTable any.now count width }
     requires few { width < 2 ^ 32 }
     requires target_in { target < count }
-    ensures { IfOk result (λ table. IsCountdown (HasArc any.now count width) count width target table.items) }
+    ensures { IfOk
+        result (λ table. IsCountdown (HasArc any.now count width) count width target table.items) }
 {
     let mut table = tables::clear_table(alloc, count as usize * width)?;
     write_countdown(any, count, width, target, &mut table);
@@ -137,7 +144,8 @@ fn meets(table: &[u64], count: u32, width: usize, at: usize, marks: &[u64]) -> b
     requires len { length table.now ≡ count * width }
     requires at_in { at < count }
     requires marks_len { length marks.now ≡ width }
-    ensures { IsTrue result ↔ ((p : ℕ) × (p < count) × HasBit marks.now p × HasCell table.now width at p) }
+    ensures { IsTrue result
+        ↔ ((p : ℕ) × (p < count) × HasBit marks.now p × HasCell table.now width at p) }
 {
     for place in 0..count as usize {
         if has_both(marks, table, width, at, place) {
@@ -152,8 +160,11 @@ pub fn first_meeting(table: &[u64], count: u32, width: usize, marks: &[u64]) -> 
     requires room { count ≤ width * 64 }
     requires len { length table.now ≡ count * width }
     requires marks_len { length marks.now ≡ width }
-    ensures found { IfSome result (λ k. (k < count) × ((p : ℕ) × (p < count) × HasBit marks.now p × HasCell table.now width k p)) }
-    ensures none { IfNone result ((k p : ℕ) → k < count → p < count → HasBit marks.now p → HasCell table.now width k p → ⊥) }
+    ensures found { IfSome
+        result (λ k.
+        (k < count) × ((p : ℕ) × (p < count) × HasBit marks.now p × HasCell table.now width k p)) }
+    ensures none { IfNone result
+        ((k p : ℕ) → k < count → p < count → HasBit marks.now p → HasCell table.now width k p → ⊥) }
 {
     for at in 0..count as usize {
         if meets(table, count, width, at, marks) {

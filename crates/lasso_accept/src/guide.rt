@@ -35,7 +35,8 @@ fn mark_sources(
         → p < width * 64
         → HasCell table.new width at p
         ↔ (HasCell table.old width at p ⊎ Moves automaton.now p label state) }
-    ensures others { (r p : ℕ) → p < width * 64 → ¬ (r ≡ at) → cell_of table.new width r p ≡ cell_of table.old width r p }
+    ensures others { (r p : ℕ) → p < width * 64 → ¬ (r ≡ at)
+        → cell_of table.new width r p ≡ cell_of table.old width r p }
 {
     let transitions = automaton.transitions();
     for number in automaton.predecessors(state) {
@@ -46,8 +47,8 @@ fn mark_sources(
     }
 }
 
-/// Adds to row `at` the states from which a move with the label leads to a state of `marked`, where that state is accepting, or
-/// else of `plain`, among the states from `begin` up to `end`.
+/// Adds to row `at` the states from which a move with the label leads to a state of `marked`, where
+/// that state is accepting, or else of `plain`, among the states from `begin` up to `end`.
 fn write_span(
     automaton: &Auto,
     label: u32,
@@ -69,7 +70,8 @@ fn write_span(
         → p < width * 64
         → HasCell table.new width at p
         ↔ (HasCell table.old width at p ⊎ ((r : ℕ) × (begin ≤ r) × (r < end) × Moves automaton.now p label r × HasBit (chosen automaton.now marked.now plain.now r) r)) }
-    ensures others { (r p : ℕ) → p < width * 64 → ¬ (r ≡ at) → cell_of table.new width r p ≡ cell_of table.old width r p }
+    ensures others { (r p : ℕ) → p < width * 64 → ¬ (r ≡ at)
+        → cell_of table.new width r p ≡ cell_of table.old width r p }
 {
     for state in begin..end {
         let row = planes::pick(automaton, state, marked, plain);
@@ -109,7 +111,8 @@ fn write_word(
         → p < width * 64
         → HasCell table.new width at p
         ↔ (HasCell table.old width at p ⊎ ((r : ℕ) × (word * 64 ≤ r) × (r < (word + 1) * 64) × Moves automaton.now p label r × HasBit (chosen automaton.now marked.now plain.now r) r)) }
-    ensures others { (r p : ℕ) → p < width * 64 → ¬ (r ≡ at) → cell_of table.new width r p ≡ cell_of table.old width r p }
+    ensures others { (r p : ℕ) → p < width * 64 → ¬ (r ≡ at)
+        → cell_of table.new width r p ≡ cell_of table.old width r p }
 {
     if is_clear(marked, plain, word) {
         return;
@@ -150,15 +153,16 @@ fn write_row(
         → p < width * 64
         → HasCell table.new width at p
         ↔ (HasCell table.old width at p ⊎ ((r : ℕ) × Moves automaton.now p label r × HasBit (chosen automaton.now marked.now plain.now r) r)) }
-    ensures others { (r p : ℕ) → p < width * 64 → ¬ (r ≡ at) → cell_of table.new width r p ≡ cell_of table.old width r p }
+    ensures others { (r p : ℕ) → p < width * 64 → ¬ (r ≡ at)
+        → cell_of table.new width r p ≡ cell_of table.old width r p }
 {
     for word in 0..width {
         write_word(automaton, label, width, marked, plain, word, at, table);
     }
 }
 
-/// Writes the row before row `at` of the table: the states from which a move with the label leads to a state of that row. `row` and `out` are
-/// room for one row each.
+/// Writes the row before row `at` of the table: the states from which a move with the label leads
+/// to a state of that row. `row` and `out` are room for one row each.
 pub fn step_back(
     automaton: &Auto,
     label: u32,
@@ -179,7 +183,8 @@ pub fn step_back(
         → p < width * 64
         → HasCell table.new width (at - 1) p
         ↔ ((r : ℕ) × Moves automaton.now p label r × HasCell table.old width at r) }
-    ensures others { (i p : ℕ) → p < width * 64 → ¬ (i ≡ at - 1) → cell_of table.new width i p ≡ cell_of table.old width i p }
+    ensures others { (i p : ℕ) → p < width * 64 → ¬ (i ≡ at - 1)
+        → cell_of table.new width i p ≡ cell_of table.old width i p }
 {
     row.copy_from_slice(rows::row_at(table, width, at));
     rows::clear_row(out);
@@ -187,7 +192,8 @@ pub fn step_back(
     row_steps::write_row(table, width, at - 1, out);
 }
 
-/// Writes all rows from the last one, which stands; the others are clear. `marked` and `plain` are room for one row each.
+/// Writes all rows from the last one, which stands; the others are clear. `marked` and `plain` are
+/// room for one row each.
 fn fill(
     automaton: &Auto,
     word: &[u32],
@@ -204,9 +210,12 @@ fn fill(
     requires plain_len { length plain.old ≡ width }
     requires any_len { length any.old ≡ (length word.now + 1) * width }
     requires flagged_len { length flagged.old ≡ (length word.now + 1) * width }
-    requires any_clear { (i p : ℕ) → i < length word.now → p < width * 64 → cell_of any.old width i p ≡ false }
-    requires flagged_clear { (i p : ℕ) → i < length word.now → p < width * 64 → cell_of flagged.old width i p ≡ false }
-    requires none { (p : ℕ) → p < automaton.now.states → HasCell flagged.old width (length word.now) p → ⊥ }
+    requires any_clear { (i p : ℕ) → i < length word.now → p < width * 64
+        → cell_of any.old width i p ≡ false }
+    requires flagged_clear { (i p : ℕ) → i < length word.now → p < width * 64
+        → cell_of flagged.old width i p ≡ false }
+    requires none { (p : ℕ) → p < automaton.now.states
+        → HasCell flagged.old width (length word.now) p → ⊥ }
     ensures { (target : List ℕ)
         → ((p : ℕ) → p < automaton.now.states → HasCell any.old width (length word.now) p ↔ HasBit target p)
         → IsGuide automaton.now word.now target width any.new flagged.new }
@@ -219,7 +228,8 @@ fn fill(
     }
 }
 
-/// Writes the guide of the word into the target over two clear tables. `marked` and `plain` are room for one row each.
+/// Writes the guide of the word into the target over two clear tables. `marked` and `plain` are
+/// room for one row each.
 fn write_guide(
     automaton: &Auto,
     word: &[u32],
@@ -258,7 +268,8 @@ pub fn guide_of(
     requires room { automaton.now.states ≤ width * 64 }
     requires few { width < 2 ^ 32 }
     requires target_len { length target.now ≡ width }
-    ensures { IfOk result (λ g. IsGuide automaton.now word.now target.now width g.any.items g.flagged.items) }
+    ensures { IfOk
+        result (λ g. IsGuide automaton.now word.now target.now width g.any.items g.flagged.items) }
 {
     let size = match (word.len() + 1).checked_mul(width) {
         Some(size) => size,

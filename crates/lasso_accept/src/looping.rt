@@ -22,7 +22,8 @@ pub fn accepts_loop_from(alloc: Global, automaton: &Auto, turn: &[u32]) -> Resul
     loop_row(alloc, automaton, turn, &[])
 }
 
-/// The states from which the loop, repeated for ever, is accepted, by tables that are kept of its ends.
+/// The states from which the loop, repeated for ever, is accepted, by tables that are kept of its
+/// ends.
 pub(crate) fn loop_row(
     alloc: Global,
     automaton: &Auto,
@@ -44,7 +45,8 @@ pub(crate) fn loop_row(
     Ok(out)
 }
 
-/// For each place of the lasso's prefix, and for its end, the row of the states from which the rest of the lasso is accepted. The row
+/// For each place of the lasso's prefix, and for its end, the row of the states from which the rest
+/// of the lasso is accepted. The row
 /// `looping` has those from which its loop is.
 pub fn rests_of(
     alloc: Global,
@@ -56,7 +58,10 @@ pub fn rests_of(
     requires loops { (p : ℕ)
         → HasBit looping.now p
         ↔ ((p < automaton.now.states) × AcceptsLoopFrom automaton.now lasso.now.turn p) }
-    ensures { IfOk result (λ table. AreRests automaton.now lasso.now.prefix lasso.now.turn ((automaton.now.states + 63) / 64) table.items) }
+    ensures { IfOk
+        result (λ table.
+        AreRests automaton.now lasso.now.prefix lasso.now.turn ((automaton.now.states + 63) / 64)
+        table.items) }
 {
     let width = rows::words_for(automaton.states());
     let guide = guide::guide_of(alloc, automaton, lasso.prefix.as_slice(), width, looping)?;

@@ -30,8 +30,9 @@ pub fn pick<'a>(automaton: &Auto, state: u32, marked: &'a [u64], plain: &'a [u64
     }
 }
 
-/// Adds to the state's row of both new tables, for each of its moves with the label, the row of the state that the move leads to. The
-/// flagged one gets the row of `any` where that state is accepting, else that of `flagged`.
+/// Adds to the state's row of both new tables, for each of its moves with the label, the row of the
+/// state that the move leads to. The flagged one gets the row of `any` where that state is
+/// accepting, else that of `flagged`.
 fn gather(
     automaton: &Auto,
     label: u32,
@@ -51,12 +52,14 @@ fn gather(
         → q < width * 64
         → HasCell new_any.new width state q
         ↔ (HasCell new_any.old width state q ⊎ ((r : ℕ) × Moves automaton.now state label r × HasCell (chosen automaton.now any.now any.now r) width r q)) }
-    ensures any_others { (p q : ℕ) → q < width * 64 → ¬ (p ≡ state) → cell_of new_any.new width p q ≡ cell_of new_any.old width p q }
+    ensures any_others { (p q : ℕ) → q < width * 64 → ¬ (p ≡ state)
+        → cell_of new_any.new width p q ≡ cell_of new_any.old width p q }
     ensures flagged_here { (q : ℕ)
         → q < width * 64
         → HasCell new_flagged.new width state q
         ↔ (HasCell new_flagged.old width state q ⊎ ((r : ℕ) × Moves automaton.now state label r × HasCell (chosen automaton.now any.now flagged.now r) width r q)) }
-    ensures flagged_others { (p q : ℕ) → q < width * 64 → ¬ (p ≡ state) → cell_of new_flagged.new width p q ≡ cell_of new_flagged.old width p q }
+    ensures flagged_others { (p q : ℕ) → q < width * 64 → ¬ (p ≡ state)
+        → cell_of new_flagged.new width p q ≡ cell_of new_flagged.old width p q }
 {
     let span = automaton.successors(state, label);
     let transitions = automaton.transitions();
@@ -139,8 +142,8 @@ fn is_clear(table: &[u64]) -> bool
     true
 }
 
-/// Puts the word in front of the one that the tables are of; the other two are room for as much. Once no states are joined, no more letters
-/// are asked.
+/// Puts the word in front of the one that the tables are of; the other two are room for as much.
+/// Once no states are joined, no more letters are asked.
 fn write_before(
     automaton: &Auto,
     word: &[u32],
@@ -199,7 +202,8 @@ fn write_word(
     write_before(automaton, word, width, any, flagged, next_any, next_flagged);
 }
 
-/// Writes the tables of a word with the letters in front, from those of the word; the last two are room for as much.
+/// Writes the tables of a word with the letters in front, from those of the word; the last two are
+/// room for as much.
 fn write_after(
     automaton: &Auto,
     letters: &[u32],
@@ -251,7 +255,8 @@ pub fn planes_of(
 ) -> Result<Planes, Memory>
     requires room { automaton.now.states ≤ width * 64 }
     requires few { width < 2 ^ 32 }
-    ensures { IfOk result (λ p. ArePlanes automaton.now word.now width p.any.items p.flagged.items) }
+    ensures { IfOk
+        result (λ p. ArePlanes automaton.now word.now width p.any.items p.flagged.items) }
 {
     let states = automaton.states();
     let mut any = table(alloc, states, width)?;

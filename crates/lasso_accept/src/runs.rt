@@ -16,11 +16,13 @@ use std::alloc::Global;
 /// A run over a lasso that shows that it is accepted.
 #[derive(Debug, Drop)]
 pub struct LassoRun {
-    /// How many times the loop is gone through on the way to the state in which the last turns begin and end.
+    /// How many times the loop is gone through on the way to the state in which the last turns
+    /// begin and end.
     pub before: u64,
     /// How many times it is gone through from there on; at least once.
     pub turns: u64,
-    /// The states: the initial one, then that after each letter of the prefix and of the loop, turn by turn.
+    /// The states: the initial one, then that after each letter of the prefix and of the loop, turn
+    /// by turn.
     pub places: List<u32>,
 }
 
@@ -108,7 +110,8 @@ fn route_of(
     route_from(alloc, &turn.any, &turn.flagged, states, width, entered)
 }
 
-/// Appends the states of a path on so many turns of the loop from the state, as the table shows the way.
+/// Appends the states of a path on so many turns of the loop from the state, as the table shows the
+/// way.
 fn take_turns(
     alloc: Global,
     automaton: &Auto,
@@ -138,8 +141,8 @@ fn take_turns(
     Ok(())
 }
 
-/// Appends the states of a path on the word and then on so many turns of the loop, as the table shows the way; on the word it
-/// passes an accepting state if that is asked for.
+/// Appends the states of a path on the word and then on so many turns of the loop, as the table
+/// shows the way; on the word it passes an accepting state if that is asked for.
 fn go(
     alloc: Global,
     automaton: &Auto,
@@ -158,7 +161,8 @@ fn go(
     requires is_state { start < automaton.now.states }
     requires turns_in { turns < automaton.now.states }
     requires counts { (target : ℕ) × CountsTurns automaton.now turn.now width target table.now }
-    requires leads { (s : ℕ) × (flag : Bool) × Run automaton.now start word.now s flag × (asked ≡ true → flag ≡ true) × HasCell table.now width turns s }
+    requires leads { (s : ℕ) × (flag : Bool) × Run automaton.now start word.now s flag
+        × (asked ≡ true → flag ≡ true) × HasCell table.now width turns s }
     ensures { (target : ℕ)
         → CountsTurns automaton.now turn.now width target table.now
         → IfOk result (λ _. HasGone automaton.now start word.now turn.now turns target asked places.old places.new) }
@@ -178,7 +182,8 @@ fn run_along(
 ) -> Result<LassoRun, Memory>
     requires room { automaton.now.states ≤ width * 64 }
     requires few { width < 2 ^ 32 }
-    requires route { IsRoute automaton.now lasso.now.prefix lasso.now.turn width route.now.at route.now.before route.now.back route.now.table.items }
+    requires route { IsRoute automaton.now lasso.now.prefix lasso.now.turn width route.now.at
+        route.now.before route.now.back route.now.table.items }
     ensures { IfOk result (λ run. IsLassoRun automaton.now lasso.now.prefix lasso.now.turn run) }
 {
     let prefix = lasso.prefix.as_slice();
@@ -218,7 +223,8 @@ fn run_along(
     })
 }
 
-/// A run over the lasso that shows that the automaton accepts it, or None where it does not. Only memory can be refused.
+/// A run over the lasso that shows that the automaton accepts it, or None where it does not. Only
+/// memory can be refused.
 pub fn run_of(alloc: Global, automaton: &Auto, lasso: &Lasso) -> Result<Option<LassoRun>, Memory>
     ensures { IfOk result
         (λ found. MatchOption found (AcceptsLasso automaton.now lasso.now.prefix lasso.now.turn → ⊥) (λ run. IsLassoRun automaton.now lasso.now.prefix lasso.now.turn run)) }

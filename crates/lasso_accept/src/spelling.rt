@@ -10,13 +10,14 @@ use crate::{guide, planes};
 use auto_core::{Auto, List, Memory, rows};
 use std::alloc::Global;
 
-/// The first state that the state moves to with the label and that is in `marked`, if it is accepting, or else in `plain`.
-/// There is one.
+/// The first state that the state moves to with the label and that is in `marked`, if it is
+/// accepting, or else in `plain`. There is one.
 fn successor_in(automaton: &Auto, state: u32, label: u32, marked: &[u64], plain: &[u64]) -> u32
     requires is_state { state < automaton.now.states }
     requires marked_room { automaton.now.states ≤ length marked.now * 64 }
     requires plain_room { automaton.now.states ≤ length plain.now * 64 }
-    requires some { (r : ℕ) × Moves automaton.now state label r × HasBit (chosen automaton.now marked.now plain.now r) r }
+    requires some { (r : ℕ) × Moves automaton.now state label r
+        × HasBit (chosen automaton.now marked.now plain.now r) r }
     ensures moves { Moves automaton.now state label result }
     ensures is_in { HasBit (chosen automaton.now marked.now plain.now result) result }
 {
@@ -53,7 +54,8 @@ fn still_asked(automaton: &Auto, state: u32, asked: bool) -> bool
     }
 }
 
-/// Appends the states of a path on the word from the state `start`, as the guide shows the way, and gives the last one.
+/// Appends the states of a path on the word from the state `start`, as the guide shows the way, and
+/// gives the last one.
 fn walk(
     automaton: &Auto,
     word: &[u32],
@@ -67,7 +69,8 @@ fn walk(
     requires valid { IsAutomaton automaton.now }
     requires room { automaton.now.states ≤ width * 64 }
     requires is_state { start < automaton.now.states }
-    requires guided { (target : Items ℕ) × IsGuide automaton.now word.now target width any.now flagged.now }
+    requires guided { (target : Items ℕ)
+        × IsGuide automaton.now word.now target width any.now flagged.now }
     requires here { HasCell (cond asked flagged.now any.now) width 0 start }
     ensures { (target : Items ℕ)
         → IsGuide automaton.now word.now target width any.now flagged.now
@@ -85,8 +88,8 @@ fn walk(
     Ok(state)
 }
 
-/// Appends the states of a path on the word from the state `start` into the target, past an accepting state if that is asked
-/// for, and gives the last one. There is such a path.
+/// Appends the states of a path on the word from the state `start` into the target, past an
+/// accepting state if that is asked for, and gives the last one. There is such a path.
 pub fn spell(
     alloc: Global,
     automaton: &Auto,
@@ -103,7 +106,9 @@ pub fn spell(
     requires target_len { length target.now ≡ width }
     requires is_state { start < automaton.now.states }
     requires leads { LeadsToTarget automaton.now start word.now target.now asked }
-    ensures { IfOk result (λ end. IsSpelled automaton.now start word.now target.now asked places.old places.new end) }
+    ensures { IfOk
+        result (λ end.
+        IsSpelled automaton.now start word.now target.now asked places.old places.new end) }
 {
     let guide = guide::guide_of(alloc, automaton, word, width, target)?;
     walk(

@@ -1,4 +1,5 @@
-//! Tables that are kept of the ends of a word, so that those of a word with the same end begin there.
+//! Tables that are kept of the ends of a word, so that those of a word with the same end begin
+//! there.
 
 ghost use Rattle.std.specs.Prelude.{◌≡◌, ◌+◌, ◌-◌, ◌/◌, ◌^◌, ◌<◌, ◌≤◌, ◌↔◌, ℕ, List, length, take, drop, IfOk, IsTrue};
 ghost use Rattle.auto_core.specs.Accept.{AcceptsLasso};
@@ -43,7 +44,8 @@ pub struct Tails {
 fn common_end(word: &[u32], other: &[u32]) -> usize
     ensures word { result ≤ length word.now }
     ensures other { result ≤ length other.now }
-    ensures same { drop (length word.now - result) word.now ≡ drop (length other.now - result) other.now }
+    ensures same { drop (length word.now - result) word.now
+        ≡ drop (length other.now - result) other.now }
 {
     let most = word.len().min(other.len());
     for count in 0..most {
@@ -77,7 +79,8 @@ pub(crate) fn planes_by(
     requires width { width ≡ (automaton.now.states + 63) / 64 }
     requires few { width < 2 ^ 32 }
     requires tails { AreTails automaton.now word.now kept.now }
-    ensures { IfOk result (λ p. ArePlanes automaton.now word.now width p.any.items p.flagged.items) }
+    ensures { IfOk
+        result (λ p. ArePlanes automaton.now word.now width p.any.items p.flagged.items) }
 {
     if kept.len() == 0 {
         return planes_of(alloc, automaton, word, width);
@@ -151,7 +154,9 @@ impl Tails {
     /// Goes on to this word: the tables of what both have at their end stay.
     fn go_to(&mut self, alloc: Global, word: &[u32]) -> Result<(), Memory>
         ensures word { IfOk result (λ _. self.new.word.items ≡ word.now) }
-        ensures tails { IfOk result (λ _. (A : Automaton) → HasTails A self.old → AreTails A word.now self.new.kept.items) }
+        ensures tails { IfOk
+            result (λ _.
+            (A : Automaton) → HasTails A self.old → AreTails A word.now self.new.kept.items) }
     {
         let common = common_end(&self.word, word);
         let count = short_ones(&self.kept, common);
@@ -197,7 +202,9 @@ impl Tails {
     ) -> Result<bool, Memory>
         requires tails { HasTails automaton.now self.old }
         ensures tails { IfOk result (λ _. HasTails automaton.now self.new) }
-        ensures told { IfOk result (λ told. IsTrue told ↔ AcceptsLasso automaton.now lasso.now.prefix lasso.now.turn) }
+        ensures told { IfOk
+            result (λ told.
+            IsTrue told ↔ AcceptsLasso automaton.now lasso.now.prefix lasso.now.turn) }
     {
         let looping = self.loop_states(alloc, automaton, lasso.turn.as_slice())?;
         is_accepted(alloc, automaton, lasso, &looping)

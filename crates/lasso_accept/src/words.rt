@@ -7,8 +7,8 @@ use auto_core::{Auto, Memory, Word};
 use set_rows::{has_accepting, reached};
 use std::alloc::Global;
 
-/// Tells whether the automaton accepts the word. A letter that it has no transitions for is allowed. Only memory can be
-/// refused.
+/// Tells whether the automaton accepts the word. A letter that it has no transitions for is
+/// allowed. Only memory can be refused.
 pub fn accepts_word(alloc: Global, automaton: &Auto, word: &Word) -> Result<bool, Memory>
     ensures { IfOk result (λ told. IsTrue told ↔ AcceptsWord automaton.now word.now) }
 {

@@ -16,12 +16,16 @@ AcceptsNone A = (u v : List ℕ) → AcceptsLasso A u v → ⊥
 
 -- A lasso that is given is accepted, and its classes spell the same as the lasso of classes.
 abbrev pub LassoIsRight : Automaton → List ℕ → List ℕ → List ℕ → Answer → Type 0
-LassoIsRight A classes cu cv answer = (lasso : Lasso) → answer ≡ Answer.Accepted lasso → ReadsLasso A classes cu cv lasso.prefix lasso.turn
+LassoIsRight A classes cu cv answer =
+    (lasso : Lasso) → answer ≡ Answer.Accepted lasso
+    → ReadsLasso A classes cu cv lasso.prefix lasso.turn
 
 -- Where none is given there is none.
 abbrev pub RejectedIsRight : Automaton → List ℕ → List ℕ → List ℕ → Answer → Type 0
-RejectedIsRight A classes cu cv answer = answer ≡ Answer.Rejected → (u v : List ℕ) → ReadsLasso A classes cu cv u v → ⊥
+RejectedIsRight A classes cu cv answer =
+    answer ≡ Answer.Rejected → (u v : List ℕ) → ReadsLasso A classes cu cv u v → ⊥
 
 -- The limit is met only where more pairs are reached.
 abbrev pub LimitIsRight : Automaton → List ℕ → List ℕ → List ℕ → ℕ → Answer → Type 0
-LimitIsRight A classes cu cv limit answer = answer ≡ Answer.Limit → AreMoreRead A classes cu cv limit
+LimitIsRight A classes cu cv limit answer =
+    answer ≡ Answer.Limit → AreMoreRead A classes cu cv limit

@@ -11,25 +11,30 @@ use Rattle.lasso_reading.specs.Words.{SpellSame}
 abbrev pub next_position : List ℕ → List ℕ → ℕ → ℕ
 next_position cu cv i = if i + 1 == length (cu ++ cv) then length cu else i + 1
 
--- A moves from one state to the other by a letter of the class that stands at the position; the other position is the
--- one behind it.
+-- A moves from one state to the other by a letter of the class that stands at the position; the
+-- other position is the one behind it.
 abbrev pub ReadsOn : Automaton → List ℕ → List ℕ → List ℕ → ℕ × ℕ → ℕ → ℕ × ℕ → Type 0
-ReadsOn A classes cu cv x a y = Moves A x.0 a y.0 × (class_of classes a ≡ slice_index (cu ++ cv) x.1) × (y.1 ≡ next_position cu cv x.1)
+ReadsOn A classes cu cv x a y =
+    Moves A x.0 a y.0 × (class_of classes a ≡ slice_index (cu ++ cv) x.1)
+    × (y.1 ≡ next_position cu cv x.1)
 
--- The states of P are n pairs of a state and a position, that of the initial state and the first position is its
--- initial one, it moves as A reads on, and it accepts where A does.
-pub record IsReadingProduct (A : Automaton) (classes cu cv : List ℕ) (n : ℕ) (pair : ℕ → ℕ × ℕ) (P : Automaton) : Type 0 where
+-- The states of P are n pairs of a state and a position, that of the initial state and the first
+-- position is its initial one, it moves as A reads on, and it accepts where A does.
+pub record IsReadingProduct (A : Automaton) (classes cu cv : List ℕ) (n : ℕ) (pair : ℕ → ℕ × ℕ)
+    (P : Automaton) : Type 0 where
   pub valid : IsAutomaton P
   pub states : P.states ≡ n
   pub initial : pair P.initial ≡ (A.initial, 0)
   pub positions : (x : ℕ) → x < n → (pair x).1 < length (cu ++ cv)
   pub sound : (x a y : ℕ) → Moves P x a y → ReadsOn A classes cu cv (pair x) a (pair y)
-  pub full : (x a : ℕ) (to : ℕ × ℕ) → x < n → ReadsOn A classes cu cv (pair x) a to → (y : ℕ) × (pair y ≡ to) × Moves P x a y
+  pub full : (x a : ℕ) (to : ℕ × ℕ) → x < n → ReadsOn A classes cu cv (pair x) a to
+      → (y : ℕ) × (pair y ≡ to) × Moves P x a y
   pub accepting : (x : ℕ) → x < n → IsAccepting P x ↔ IsAccepting A (pair x).0
 
 -- A accepts the lasso, and its classes spell the same as the lasso of classes.
 abbrev pub ReadsLasso : Automaton → List ℕ → List ℕ → List ℕ → List ℕ → List ℕ → Type 0
-ReadsLasso A classes cu cv u v = AcceptsLasso A u v × SpellSame (classes_in classes u) (classes_in classes v) cu cv
+ReadsLasso A classes cu cv u v =
+    AcceptsLasso A u v × SpellSame (classes_in classes u) (classes_in classes v) cu cv
 
 -- P accepts just these lassos.
 abbrev pub ReadsJust : Automaton → List ℕ → List ℕ → List ℕ → Automaton → Type 0
@@ -46,7 +51,8 @@ ProductReadsJust =
 -- Reading on by the letters of the word leads from one pair to the other.
 abbrev pub ReadsAlong : Automaton → List ℕ → List ℕ → List ℕ → ℕ × ℕ → List ℕ → ℕ × ℕ → Type 0
 ReadsAlong A classes cu cv x [] y = x ≡ y
-ReadsAlong A classes cu cv x (a ∷ w) y = (z : ℕ × ℕ) × ReadsOn A classes cu cv x a z × ReadsAlong A classes cu cv z w y
+ReadsAlong A classes cu cv x (a ∷ w) y =
+    (z : ℕ × ℕ) × ReadsOn A classes cu cv x a z × ReadsAlong A classes cu cv z w y
 
 -- The pair is reached from that of the initial state and the first position.
 abbrev pub IsReadPair : Automaton → List ℕ → List ℕ → List ℕ → ℕ × ℕ → Type 0

@@ -14,4 +14,6 @@ SpellSame u v x y = (n : ℕ) → first_letters u v n ≡ first_letters x y n
 
 -- Lassos that spell one infinite word are accepted alike.
 abbrev pub SpelledAlikeAcceptedAlike : Type 0
-SpelledAlikeAcceptedAlike = (A : Automaton) (u v x y : List ℕ) → 1 ≤ length y → SpellSame u v x y → AcceptsLasso A u v → AcceptsLasso A x y
+SpelledAlikeAcceptedAlike =
+    (A : Automaton) (u v x y : List ℕ) → 1 ≤ length y → SpellSame u v x y → AcceptsLasso A u v
+    → AcceptsLasso A x y

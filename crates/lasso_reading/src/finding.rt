@@ -41,9 +41,11 @@ fn trimmed(alloc: Global, automaton: &Auto) -> Result<Auto, Memory>
     keep(alloc, automaton, &kept)
 }
 
-/// A lasso that the automaton accepts, if there is one. 2^32 - 2 states and more may be refused as memory.
+/// A lasso that the automaton accepts, if there is one. 2^32 - 2 states and more may be refused as
+/// memory.
 pub fn accepted_lasso(alloc: Global, automaton: &Auto) -> Result<Option<Lasso>, Memory>
-    ensures some { IfOk result (λ r. IfSome r (λ lasso. AcceptsLasso automaton.now lasso.prefix lasso.turn)) }
+    ensures some { IfOk
+        result (λ r. IfSome r (λ lasso. AcceptsLasso automaton.now lasso.prefix lasso.turn)) }
     ensures none { result ≡ Ok None → AcceptsNone automaton.now }
 {
     let first = trimmed(alloc, automaton)?;
@@ -56,8 +58,8 @@ pub fn accepted_lasso(alloc: Global, automaton: &Auto) -> Result<Option<Lasso>, 
 }
 
 /// A lasso that the automaton accepts and whose classes spell the same as the lasso of classes, if
-/// there is one and at most `limit` pairs of a state and a position are reached. 2^32 moves and more,
-/// and 2^32 - 2 pairs and more, may be refused as memory.
+/// there is one and at most `limit` pairs of a state and a position are reached. 2^32 moves and
+/// more, and 2^32 - 2 pairs and more, may be refused as memory.
 pub fn lasso_read(
     alloc: Global,
     automaton: &Auto,

@@ -1,4 +1,5 @@
-//! Lassos that spell one infinite word, and the product of an automaton with the lasso that it is to read.
+//! Lassos that spell one infinite word, and the product of an automaton with the lasso that it is
+//! to read.
 #![tactic(auto)]
 
 mod factors;

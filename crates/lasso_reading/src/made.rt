@@ -11,8 +11,8 @@
 //!
 //! The pairs are a set that is read from its start while it grows: the place in it is the mark of
 //! what is done, and the numbers of its pairs are the states of the product. Each move is put down
-//! once, with both numbers, when the pair that it leaves has its turn; so nothing is looked up again
-//! when the automaton is made.
+//! once, with both numbers, when the pair that it leaves has its turn; so nothing is looked up
+//! again when the automaton is made.
 
 ghost use Rattle.std.specs.Prelude.{◌≡◌, ◌+◌, ◌^◌, ◌<◌, ◌≤◌, length, filter, IfOk};
 ghost use Rattle.std.specs.List.{range_with_len};
@@ -57,9 +57,12 @@ impl Made {
     }
 
     /// Follows a transition from the pair with the number `from` to the pair of its target and the
-    /// position. False: there are more than `limit` pairs. 2^32 moves and more are refused as memory.
+    /// position. False: there are more than `limit` pairs. 2^32 moves and more are refused as
+    /// memory.
     fn follow(&mut self, from: u32, step: Trans, position: u32, limit: u32) -> Result<bool, Memory>
-        ensures { IfOk result (IsFollowed limit from step position self.old.pairs.keys self.old.moves.items self.new.pairs.keys self.new.moves.items) }
+        ensures { IfOk result
+            (IsFollowed limit from step position self.old.pairs.keys self.old.moves.items
+            self.new.pairs.keys self.new.moves.items) }
     {
         let number = number_of(&mut self.pairs, (step.target, position))?;
         if self.pairs.len() > limit as usize {
@@ -76,13 +79,15 @@ impl Made {
         Ok(true)
     }
 
-    /// Follows the transitions from the pair with this number. False: there are more than `limit` pairs.
+    /// Follows the transitions from the pair with this number. False: there are more than `limit`
+    /// pairs.
     fn expand(&mut self, factors: &Factors, from: u32, limit: u32) -> Result<bool, Memory>
         requires factors { AreFactors factors.now }
         requires made { AreMade factors.now from self.old.pairs.keys self.old.moves.items }
         requires within { from < length self.old.pairs.keys }
         requires few { length self.old.pairs.keys ≤ limit }
-        ensures { IfOk result (IsMadeUpTo factors.now limit (from + 1) self.new.pairs.keys self.new.moves.items) }
+        ensures { IfOk result
+            (IsMadeUpTo factors.now limit (from + 1) self.new.pairs.keys self.new.moves.items) }
     {
         let pair = self.pairs.as_slice()[from as usize];
         let class = class_at(factors.prefix, factors.turn, pair.1);
@@ -103,7 +108,9 @@ impl Made {
     pub fn expand_all(&mut self, factors: &Factors, limit: u32) -> Result<bool, Memory>
         requires factors { AreFactors factors.now }
         requires made { AreMade factors.now 0 self.old.pairs.keys self.old.moves.items }
-        ensures { IfOk result (IsMadeUpTo factors.now limit (length self.new.pairs.keys) self.new.pairs.keys self.new.moves.items) }
+        ensures { IfOk result
+            (IsMadeUpTo factors.now limit (length self.new.pairs.keys) self.new.pairs.keys
+            self.new.moves.items) }
     {
         if self.pairs.len() > limit as usize {
             return Ok(false);
@@ -122,7 +129,10 @@ impl Made {
     pub fn accepting(&self, alloc: Global, automaton: &Auto, count: u32) -> Result<Vec<u32>, Memory>
         requires count { count ≡ length self.now.pairs.keys }
         requires states { HasStatesOf automaton.now self.now.pairs.keys }
-        ensures { IfOk result (λ numbers. numbers.items ≡ filter (accepts_at automaton.now self.now.pairs.keys) (range_with_len 0 count)) }
+        ensures { IfOk
+            result (λ numbers.
+            numbers.items
+            ≡ filter (accepts_at automaton.now self.now.pairs.keys) (range_with_len 0 count)) }
     {
         let mut numbers = Vec::new(alloc);
         for number in 0..count {

@@ -1,4 +1,5 @@
-//! The positions of a lasso of classes: the places of its prefix, and behind them those of its loop.
+//! The positions of a lasso of classes: the places of its prefix, and behind them those of its
+//! loop.
 
 ghost use Rattle.std.specs.Prelude.{◌≡◌, ◌<◌, ◌^◌, ◌++◌, length, slice_index};
 ghost use Rattle.lasso_reading.specs.Reading.{next_position};

@@ -9,8 +9,8 @@ use auto_core::{Auto, Memory, of_parts};
 use std::alloc::Global;
 
 /// The product of the automaton with the lasso of classes, which accepts just the lassos that the
-/// automaton accepts and whose classes spell the same. None where more than `limit` pairs of a state
-/// and a position are reached. 2^32 moves and more are refused as memory.
+/// automaton accepts and whose classes spell the same. None where more than `limit` pairs of a
+/// state and a position are reached. 2^32 moves and more are refused as memory.
 pub fn product_with(
     alloc: Global,
     automaton: &Auto,
@@ -23,9 +23,11 @@ pub fn product_with(
     requires turn { 1 ≤ length turn.now }
     requires few { length (prefix.now ++ turn.now) < 2 ^ 32 }
     ensures labels { IfOk result (λ r. IfSome r (λ P. P.labels ≡ automaton.now.labels)) }
-    ensures reads { IfOk result (λ r. IfSome r (ReadsJust automaton.now classes.now prefix.now turn.now)) }
+    ensures reads { IfOk
+        result (λ r. IfSome r (ReadsJust automaton.now classes.now prefix.now turn.now)) }
     ensures few { IfOk result (λ r. IfSome r (λ P. P.states ≤ limit)) }
-    ensures none { result ≡ Ok None → AreMoreRead automaton.now classes.now prefix.now turn.now limit }
+    ensures none { result ≡ Ok None
+        → AreMoreRead automaton.now classes.now prefix.now turn.now limit }
 {
     let factors = Factors {
         automaton,

@@ -15,11 +15,13 @@ pub record IsFront (A : Automaton) (w front : List ℕ) : Type 0 where
   pub row : IsRow A.states front
   pub members : (q : ℕ) → HasBit front q ↔ set_of A w q
 
--- From row `first` on, the table has for each place of the prefix u, and for its end, the row of the states from which the rest of u and then v for ever
--- is accepted.
-pub record AreRestsFrom (A : Automaton) (u v : List ℕ) (width first : ℕ) (table : List ℕ) : Type 0 where
+-- From row `first` on, the table has for each place of the prefix u, and for its end, the row of
+-- the states from which the rest of u and then v for ever is accepted.
+pub record AreRestsFrom (A : Automaton) (u v : List ℕ) (width first : ℕ)
+    (table : List ℕ) : Type 0 where
   pub len : length table ≡ (first + length u + 1) * width
-  pub rows : (k p : ℕ) → k ≤ length u → p < A.states → HasCell table width (first + k) p ↔ AcceptsLassoFrom A (drop k u) v p
+  pub rows : (k p : ℕ) → k ≤ length u → p < A.states
+      → HasCell table width (first + k) p ↔ AcceptsLassoFrom A (drop k u) v p
 
 -- The rests of the lasso are kept, with room for two rows.
 pub record AreKept (A : Automaton) (u v : List ℕ) (rests : Rests) : Type 0 where

@@ -13,7 +13,8 @@ word_without w k = take k w ++ drop (k + 1) w
 abbrev pub letters_of : Lasso → ℕ
 letters_of l = length l.prefix + length l.turn
 
--- The lasso without its letter at the place. Without its only letter a loop is empty, and then the lasso is not accepted.
+-- The lasso without its letter at the place. Without its only letter a loop is empty, and then the
+-- lasso is not accepted.
 abbrev pub lasso_without : Lasso → ℕ → Lasso
 lasso_without l k =
     if nat_lt k (length l.prefix)

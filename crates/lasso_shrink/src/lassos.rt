@@ -24,7 +24,8 @@ fn separates(
 ) -> Result<bool, Memory>
     requires tails { HasTails first.now tails.old }
     requires other_tails { HasTails second.now other_tails.old }
-    ensures told { IfOk result (λ told. IsTrue told ↔ LassoSeparates first.now second.now lasso.now) }
+    ensures told { IfOk
+        result (λ told. IsTrue told ↔ LassoSeparates first.now second.now lasso.now) }
     ensures tails { IfOk result (λ _. HasTails first.now tails.new) }
     ensures other_tails { IfOk result (λ _. HasTails second.now other_tails.new) }
 {
@@ -60,7 +61,8 @@ fn rests_of(alloc: Global, automaton: &Auto, lasso: &Lasso) -> Result<Rests, Mem
     Rests::of(alloc, automaton, lasso, &target)
 }
 
-/// The lasso that is left if, as long as some letter of its prefix can go, the first such letter is left out.
+/// The lasso that is left if, as long as some letter of its prefix can go, the first such letter is
+/// left out.
 fn shrink_prefix(alloc: Global, first: &Auto, second: &Auto, lasso: Lasso) -> Result<Lasso, Memory>
     requires { LassoSeparates first.now second.now lasso }
     ensures { IfOk result (PrefixIsShrunk first.now second.now lasso) }
@@ -95,7 +97,10 @@ fn shorter(
     requires other_tails { HasTails second.now other_tails.old }
     ensures tails { IfOk result (λ _. HasTails first.now tails.new) }
     ensures other_tails { IfOk result (λ _. HasTails second.now other_tails.new) }
-    ensures left { IfOk result (λ left. MatchOption left (LassoNeedsEach first.now second.now lasso.now) (LassoLeavesOne first.now second.now lasso.now)) }
+    ensures left { IfOk
+        result (λ left.
+        MatchOption left (LassoNeedsEach first.now second.now lasso.now)
+        (LassoLeavesOne first.now second.now lasso.now)) }
 {
     let prefix = lasso.prefix.as_slice().len();
     for place in prefix..prefix + lasso.turn.as_slice().len() {
@@ -107,8 +112,9 @@ fn shorter(
     Ok(None)
 }
 
-/// The lasso that is left if, as long as some letter can go so that what is left still separates the automata, the first such letter is
-/// left out, the prefix's letters before the loop's. The loop keeps a letter.
+/// The lasso that is left if, as long as some letter can go so that what is left still separates
+/// the automata, the first such letter is left out, the prefix's letters before the loop's. The
+/// loop keeps a letter.
 pub fn shrink(alloc: Global, first: &Auto, second: &Auto, lasso: &Lasso) -> Result<Lasso, Memory>
     requires { SeparatesLasso first.now second.now lasso.now.prefix lasso.now.turn }
     ensures exact { IfOk result (IsShrunkLasso first.now second.now lasso.now) }

@@ -1,4 +1,5 @@
-//! The first letter of a lasso's prefix that can go: the states before it against the states from which the rest is accepted.
+//! The first letter of a lasso's prefix that can go: the states before it against the states from
+//! which the rest is accepted.
 
 ghost use Rattle.std.specs.Prelude.{◌≡◌, ◌+◌, ◌/◌, ◌<◌, ◌↔◌, ℕ, length, take, IfOk, IsTrue, MatchOption};
 ghost use Rattle.auto_core.specs.Accept.{AcceptsLasso, SeparatesLasso};
@@ -11,8 +12,8 @@ use row_steps::meets;
 use set_rows::{write_after, write_one};
 use std::alloc::Global;
 
-/// Tells whether the automaton accepts the lasso without its prefix's letter at the place. The front has the states that the letters
-/// before lead to.
+/// Tells whether the automaton accepts the lasso without its prefix's letter at the place. The
+/// front has the states that the letters before lead to.
 fn accepts_without(
     automaton: &Auto,
     lasso: &Lasso,
@@ -23,7 +24,8 @@ fn accepts_without(
     requires place_in { place < length lasso.now.prefix }
     requires rests { AreKept automaton.now lasso.now.prefix lasso.now.turn rests.now }
     requires front { IsFront automaton.now (take place lasso.now.prefix) front.now }
-    ensures { IsTrue result ↔ AcceptsLasso automaton.now (word_without lasso.now.prefix place) lasso.now.turn }
+    ensures { IsTrue result
+        ↔ AcceptsLasso automaton.now (word_without lasso.now.prefix place) lasso.now.turn }
 {
     let width = rows::words_for(automaton.states());
     let rest = rows::row_at(&rests.table, width, rests.first + place + 1);
@@ -57,7 +59,8 @@ fn separates_without(
     requires other_rests { AreKept second.now lasso.now.prefix lasso.now.turn other_rests.now }
     requires front { IsFront first.now (take place lasso.now.prefix) front.now }
     requires other_front { IsFront second.now (take place lasso.now.prefix) other_front.now }
-    ensures { IsTrue result ↔ SeparatesLasso first.now second.now (word_without lasso.now.prefix place) lasso.now.turn }
+    ensures { IsTrue result
+        ↔ SeparatesLasso first.now second.now (word_without lasso.now.prefix place) lasso.now.turn }
 {
     if !accepts_without(first, lasso, place, rests, front) {
         return false;
@@ -66,7 +69,8 @@ fn separates_without(
     !other
 }
 
-/// The first place of the prefix whose letter can go, by one pass from the prefix's beginning. The last four rows are used on the way.
+/// The first place of the prefix whose letter can go, by one pass from the prefix's beginning. The
+/// last four rows are used on the way.
 fn find_place(
     first: &Auto,
     second: &Auto,
@@ -84,7 +88,8 @@ fn find_place(
     requires next_len { length next.old ≡ (first.now.states + 63) / 64 }
     requires other_front_len { length other_front.old ≡ (second.now.states + 63) / 64 }
     requires other_next_len { length other_next.old ≡ (second.now.states + 63) / 64 }
-    ensures { MatchOption result (PrefixNeedsEach first.now second.now lasso.now) (IsFirstPlace first.now second.now lasso.now) }
+    ensures { MatchOption result (PrefixNeedsEach first.now second.now lasso.now)
+        (IsFirstPlace first.now second.now lasso.now) }
 {
     write_one(first.states(), first.initial(), front);
     write_one(second.states(), second.initial(), other_front);
@@ -125,7 +130,10 @@ pub fn first_place(
 ) -> Result<Option<usize>, Memory>
     requires rests { AreKept first.now lasso.now.prefix lasso.now.turn rests.now }
     requires other_rests { AreKept second.now lasso.now.prefix lasso.now.turn other_rests.now }
-    ensures { IfOk result (λ place. MatchOption place (PrefixNeedsEach first.now second.now lasso.now) (IsFirstPlace first.now second.now lasso.now)) }
+    ensures { IfOk
+        result (λ place.
+        MatchOption place (PrefixNeedsEach first.now second.now lasso.now)
+        (IsFirstPlace first.now second.now lasso.now)) }
 {
     let mut front = row_for(alloc, first)?;
     let mut next = row_for(alloc, first)?;

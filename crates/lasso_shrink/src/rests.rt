@@ -1,4 +1,5 @@
-//! The states from which the rest of a lasso is accepted, kept while letters of its prefix are left out.
+//! The states from which the rest of a lasso is accepted, kept while letters of its prefix are left
+//! out.
 
 ghost use Rattle.std.specs.Prelude.{◌≡◌, ◌+◌, ◌*◌, ◌/◌, ◌^◌, ◌<◌, ◌≤◌, ◌↔◌, ℕ, List, length, IfOk};
 ghost use Rattle.auto_core.specs.Automaton.{IsAutomaton};
@@ -12,8 +13,9 @@ use auto_core::{Auto, Lasso, Memory, rows};
 use lasso_accept::{rests_of, step_back};
 use std::alloc::Global;
 
-/// For each place of a lasso's prefix, and for its end, the row of the states from which the rest of the lasso is accepted. The rows stand at the
-/// end of the table, after those of letters that were left out.
+/// For each place of a lasso's prefix, and for its end, the row of the states from which the rest
+/// of the lasso is accepted. The rows stand at the end of the table, after those of letters that
+/// were left out.
 #[derive(Debug, Drop)]
 pub struct Rests {
     /// How many letters were left out.
@@ -26,8 +28,8 @@ pub struct Rests {
     pub out: Vec<u64>,
 }
 
-/// Writes the rows of the places before this one anew, from the row after them, where the prefix has lost its letter there. The last two rows are
-/// room.
+/// Writes the rows of the places before this one anew, from the row after them, where the prefix
+/// has lost its letter there. The last two rows are room.
 fn rewrite(
     automaton: &Auto,
     lasso: &Lasso,
@@ -42,10 +44,12 @@ fn rewrite(
     requires width { width ≡ (automaton.now.states + 63) / 64 }
     requires few { width < 2 ^ 32 }
     requires within { place < length lasso.now.prefix }
-    requires rests { AreRestsFrom automaton.now lasso.now.prefix lasso.now.turn width first table.old }
+    requires rests { AreRestsFrom automaton.now lasso.now.prefix lasso.now.turn width first
+        table.old }
     requires row_len { length row.old ≡ width }
     requires out_len { length out.old ≡ width }
-    ensures { AreRestsFrom automaton.now (word_without lasso.now.prefix place) lasso.now.turn width (first + 1) table.new }
+    ensures { AreRestsFrom automaton.now (word_without lasso.now.prefix place) lasso.now.turn width
+        (first + 1) table.new }
 {
     let prefix = lasso.prefix.as_slice();
     for at in (0..place).rev() {
@@ -88,7 +92,8 @@ impl Rests {
     pub fn leave_out(&mut self, automaton: &Auto, lasso: &Lasso, place: usize)
         requires within { place < length lasso.now.prefix }
         requires kept { AreKept automaton.now lasso.now.prefix lasso.now.turn self.old }
-        ensures { AreKept automaton.now (word_without lasso.now.prefix place) lasso.now.turn self.new }
+        ensures { AreKept automaton.now (word_without lasso.now.prefix place) lasso.now.turn
+            self.new }
     {
         let width = rows::words_for(automaton.states());
         rewrite(

@@ -22,7 +22,10 @@ fn separates(alloc: Global, first: &Auto, second: &Auto, word: &Word) -> Result<
 
 /// The word without the first letter that can go, if any can.
 fn shorter(alloc: Global, first: &Auto, second: &Auto, word: &Word) -> Result<Option<Word>, Memory>
-    ensures { IfOk result (λ left. MatchOption left (WordNeedsEach first.now second.now word.now) (WordLeavesOne first.now second.now word.now)) }
+    ensures { IfOk
+        result (λ left.
+        MatchOption left (WordNeedsEach first.now second.now word.now)
+        (WordLeavesOne first.now second.now word.now)) }
 {
     let letters = word.as_slice();
     for place in 0..letters.len() {
@@ -34,8 +37,8 @@ fn shorter(alloc: Global, first: &Auto, second: &Auto, word: &Word) -> Result<Op
     Ok(None)
 }
 
-/// The word that is left if, as long as some letter can go so that what is left still separates the automata, the first such letter is
-/// left out.
+/// The word that is left if, as long as some letter can go so that what is left still separates the
+/// automata, the first such letter is left out.
 pub fn shrink_word(alloc: Global, first: &Auto, second: &Auto, word: &Word) -> Result<Word, Memory>
     requires { SeparatesWord first.now second.now word.now }
     ensures exact { IfOk result (IsShrunkWord first.now second.now word.now) }

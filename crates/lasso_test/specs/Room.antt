@@ -7,7 +7,8 @@ use Rattle.lasso_test.specs.declared.passing.Scratch.TheInside.{Inside}
 abbrev pub states_of : Inside → ℕ
 states_of s = s.states
 
--- Each of the three rows has the words for so many bits, and the room for the marks of loops is for so many states.
+-- Each of the three rows has the words for so many bits, and the room for the marks of loops is for
+-- so many states.
 pub record HasRoomForMarks (s : Inside) : Type 0 where
   pub marks : length s.marks.items ≡ width_of s.states
   pub back : length s.back.items ≡ width_of s.states

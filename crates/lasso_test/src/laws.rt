@@ -2,7 +2,8 @@
 
 ghost use Rattle.lasso_test.specs.Laws.{LassosEnterLoops, BlocksEnterLoops, WordsEnterLoops};
 
-/// Two graphs of values have a lasso just where the first leads to a state from which the second has a loop.
+/// Two graphs of values have a lasso just where the first leads to a state from which the second
+/// has a loop.
 pub fn lassos_enter_loops()
     ensures { LassosEnterLoops }
 {}

@@ -1,5 +1,5 @@
-//! The states of a graph from which its arcs lead to a loop past an accepting state. They are marked once for a graph; then a pair of
-//! graphs is tested by one row of each.
+//! The states of a graph from which its arcs lead to a loop past an accepting state. They are
+//! marked once for a graph; then a pair of graphs is tested by one row of each.
 
 ghost use Rattle.std.specs.Prelude.{◌≡◌, ◌<◌, ◌↔◌, ℕ, IsTrue, length};
 ghost use Rattle.auto_core.specs.Rows.{HasBit};
@@ -12,7 +12,8 @@ use row_steps::meets;
 pub fn enters(n: u32, g: &[u64], initial: u32, looping: &[u64]) -> bool
     requires formed { IsFormed n g.now }
     requires row { length looping.now ≡ width_of n }
-    ensures { IsTrue result ↔ ((q : ℕ) × (block_graph n g.now).joined initial q × HasBit looping.now q) }
+    ensures { IsTrue result
+        ↔ ((q : ℕ) × (block_graph n g.now).joined initial q × HasBit looping.now q) }
 {
     if initial >= n {
         return false;

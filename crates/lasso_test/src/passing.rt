@@ -58,8 +58,9 @@ impl Scratch {
     }
 }
 
-/// Tells whether an arc of `g` leads from the initial state to a state from which arcs of `h` come back to one of their states
-/// past an arc of value 2. What the scratch holds before does not matter.
+/// Tells whether an arc of `g` leads from the initial state to a state from which arcs of `h` come
+/// back to one of their states past an arc of value 2. What the scratch holds before does not
+/// matter.
 pub fn passes(n: u32, g: &[u64], h: &[u64], initial: u32, scratch: &mut Scratch) -> bool
     requires first { IsFormed n g.now }
     requires second { IsFormed n h.now }
@@ -84,8 +85,8 @@ pub fn passes(n: u32, g: &[u64], h: &[u64], initial: u32, scratch: &mut Scratch)
     )
 }
 
-/// Marks the states from which arcs of `h` come back to one of their states past an arc of value 2. What the scratch and the row
-/// hold before does not matter.
+/// Marks the states from which arcs of `h` come back to one of their states past an arc of value 2.
+/// What the scratch and the row hold before does not matter.
 pub fn mark_looping(n: u32, h: &[u64], looping: &mut [u64], scratch: &mut Scratch)
     requires formed { IsFormed n h.now }
     requires room { scratch.old ≡ n }

@@ -10,7 +10,8 @@ use Rattle.map_laws.specs.Maps.{HasSameColumns}
 abbrev pub exchanged : Trans → Trans
 exchanged t = trans t.label t.source t.target
 
--- T has the moves of A with source and letter exchanged, so that the moves out of a are those of A by the letter a.
+-- T has the moves of A with source and letter exchanged, so that the moves out of a are those of A
+-- by the letter a.
 pub record IsTurned (A T : Automaton) : Type 0 where
   pub valid : IsAutomaton T
   pub enough : A.labels ≤ T.states
@@ -18,7 +19,8 @@ pub record IsTurned (A T : Automaton) : Type 0 where
 
 -- The transitions i and j have one label and one target.
 abbrev pub AreAlike : Automaton → ℕ → ℕ → Type 0
-AreAlike T i j = ((trans_at T i).label ≡ (trans_at T j).label) × ((trans_at T i).target ≡ (trans_at T j).target)
+AreAlike T i j =
+    ((trans_at T i).label ≡ (trans_at T j).label) × ((trans_at T i).target ≡ (trans_at T j).target)
 
 -- The transitions from b up to e are, place by place, like those from c up to f, and equally many.
 pub record AreSpansAlike (T : Automaton) (b e c f : ℕ) : Type 0 where
@@ -43,16 +45,19 @@ pub record AreLetterClasses (classes : List ℕ) (count : ℕ) : Type 0 where
 -- A number of the list has a lesser one that does not appear before.
 abbrev pub IsOutOfOrder : List ℕ → Type 0
 IsOutOfOrder classes =
-    (q c : ℕ) × (q < length classes) × (c < class_of classes q) × ((p : ℕ) → p < q → class_of classes p ≡ c → ⊥)
+    (q c : ℕ) × (q < length classes) × (c < class_of classes q)
+    × ((p : ℕ) → p < q → class_of classes p ≡ c → ⊥)
 
 -- The first label of each class that the labels below n have.
 pub record AreFirsts (classes : List ℕ) (n : ℕ) (firsts : List ℕ) : Type 0 where
   pub counts : IsCount classes n (length firsts)
-  pub each : (c : ℕ) → c < length firsts → (slice_index firsts c < n) × (class_of classes (slice_index firsts c) ≡ c)
+  pub each : (c : ℕ) → c < length firsts
+      → (slice_index firsts c < n) × (class_of classes (slice_index firsts c) ≡ c)
 
 -- The labels below n that are of one class have the same moves.
 abbrev pub JoinsEqualBelow : Automaton → List ℕ → ℕ → Type 0
-JoinsEqualBelow A classes n = (a b : ℕ) → a < n → b < n → class_of classes a ≡ class_of classes b → HasSameColumns A a b
+JoinsEqualBelow A classes n =
+    (a b : ℕ) → a < n → b < n → class_of classes a ≡ class_of classes b → HasSameColumns A a b
 
 -- The first label that has other moves than a label before it of its class.
 pub record IsFirstUnlike (A : Automaton) (classes : List ℕ) (a : ℕ) : Type 0 where
@@ -67,13 +72,16 @@ pub record IsFirstUnlike (A : Automaton) (classes : List ℕ) (a : ℕ) : Type 0
 pub record AreClassesOfColumns (A : Automaton) (classes : List ℕ) : Type 0 where
   pub len : length classes ≡ A.labels
   pub order : AreInOrder classes (length classes)
-  pub joins : (a b : ℕ) → a < A.labels → b < A.labels → (class_of classes a ≡ class_of classes b) ↔ HasSameColumns A a b
+  pub joins : (a b : ℕ) → a < A.labels → b < A.labels
+      → (class_of classes a ≡ class_of classes b) ↔ HasSameColumns A a b
 
--- The class of a label: that of the first label that has the same moves, or the next one if there is none.
+-- The class of a label: that of the first label that has the same moves, or the next one if there
+-- is none.
 abbrev pub IsFound : Automaton → List ℕ → ℕ → ℕ → Type 0
 IsFound A firsts a class =
     ((class < length firsts) × HasSameColumns A (slice_index firsts class) a)
-    ⊎ ((class ≡ length firsts) × ((c : ℕ) → c < length firsts → HasSameColumns A (slice_index firsts c) a → ⊥))
+    ⊎ ((class ≡ length firsts)
+    × ((c : ℕ) → c < length firsts → HasSameColumns A (slice_index firsts c) a → ⊥))
 
 -- The transition with the class of its letter.
 abbrev pub lettered : List ℕ → Trans → Trans

@@ -1,4 +1,5 @@
-//! Classes of letters: the coarsest that an automaton does not tell apart, and the check of given ones.
+//! Classes of letters: the coarsest that an automaton does not tell apart, and the check of given
+//! ones.
 
 ghost use Rattle.std.specs.Prelude.{◌≡◌, ◌<◌, ◌≤◌, ℕ, length, IfOk, IfSome, IfNone, Ok, None, Some, All};
 ghost use Rattle.letter_classes.specs.Columns.{IsTurned, AreFirsts, IsFound, IsFirstUnlike, AreClassesOfColumns};
@@ -9,7 +10,8 @@ use crate::columns::{has_same_columns, turned};
 use auto_core::{Auto, Memory};
 use std::alloc::Global;
 
-/// The place of the first label of the list that has the moves of this one; the list's length where there is none.
+/// The place of the first label of the list that has the moves of this one; the list's length where
+/// there is none.
 fn class_for(automaton: &Auto, turned: &Auto, firsts: &[u32], letter: u32) -> usize
     requires turned { IsTurned automaton.now turned.now }
     requires letter { letter < automaton.now.labels }
@@ -42,7 +44,8 @@ pub fn classes_of(alloc: Global, automaton: &Auto) -> Result<LetterClasses, Memo
     Ok(LetterClasses { of, count })
 }
 
-/// The first label that has other moves than a label before it of its class; None where there is none.
+/// The first label that has other moves than a label before it of its class; None where there is
+/// none.
 pub fn check(
     alloc: Global,
     automaton: &Auto,

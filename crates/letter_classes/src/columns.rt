@@ -63,14 +63,17 @@ fn are_alike(turned: &Auto, first: u32, second: u32) -> bool
     one.label == other.label && one.target == other.target
 }
 
-/// Tells whether the two spans of the turned automaton's transitions, place by place, have the same labels and targets.
+/// Tells whether the two spans of the turned automaton's transitions, place by place, have the same
+/// labels and targets.
 fn are_spans_alike(turned: &Auto, first: Span, second: Span) -> bool
     requires first_range { first.begin ≤ first.end }
     requires first_in { first.end ≤ length turned.now.transitions }
     requires second_range { second.begin ≤ second.end }
     requires second_in { second.end ≤ length turned.now.transitions }
-    ensures alike { OnTrue result (AreSpansAlike turned.now first.begin first.end second.begin second.end) }
-    ensures unlike { OnFalse result (HasFirstUnlike turned.now first.begin first.end second.begin second.end) }
+    ensures alike { OnTrue result
+        (AreSpansAlike turned.now first.begin first.end second.begin second.end) }
+    ensures unlike { OnFalse result
+        (HasFirstUnlike turned.now first.begin first.end second.begin second.end) }
 {
     for at in 0..first.end - first.begin {
         if at >= second.end - second.begin {

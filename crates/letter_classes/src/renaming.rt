@@ -43,7 +43,9 @@ fn distinct(list: Vec<Trans>) -> Result<Vec<Trans>, Memory>
 
 /// The accepting states, ascending.
 fn accepting_states(alloc: Global, automaton: &Auto) -> Result<Vec<u32>, Memory>
-    ensures { IfOk result (λ v. v.items ≡ filter (is_accepting automaton.now) (range_with_len 0 automaton.now.states)) }
+    ensures { IfOk
+        result (λ v.
+        v.items ≡ filter (is_accepting automaton.now) (range_with_len 0 automaton.now.states)) }
 {
     let mut made = Vec::new(alloc);
     for state in 0..automaton.states() {
@@ -54,7 +56,8 @@ fn accepting_states(alloc: Global, automaton: &Auto) -> Result<Vec<u32>, Memory>
     Ok(made)
 }
 
-/// The automaton over the classes of letters: a transition for each transition, by the class of its letter.
+/// The automaton over the classes of letters: a transition for each transition, by the class of its
+/// letter.
 pub fn renamed(alloc: Global, automaton: &Auto, classes: &LetterClasses) -> Result<Auto, Memory>
     requires { length classes.now ≡ automaton.now.labels }
     ensures { IfOk result (IsRenamed automaton.now classes.now) }

@@ -1,4 +1,5 @@
--- What the blocks of a certificate list, pairs or triples with ranks, and whether they name states and labels.
+-- What the blocks of a certificate list, pairs or triples with ranks, and whether they name states
+-- and labels.
 use Rattle.std.specs.Prelude.{◌≡◌, ℕ, ◌<◌, ◌↔◌, Option, List, map, All, Contains}
 use Rattle.std.specs.List.{flat_map}
 use Rattle.auto_core.specs.Automaton.{Automaton}
@@ -41,7 +42,8 @@ pub record IsBlockRelation (n : ℕ) (block : RelBlock) (rel : Relation) : Type 
 
 -- The triples of a row with ranks.
 abbrev pub triples_of_row : RankRow → RankedTriples
-triples_of_row row = map (λ (r : Ranked). (row.left, row.ahead, r.right, rank_in_code r.code)) row.rights
+triples_of_row row =
+    map (λ (r : Ranked). (row.left, row.ahead, r.right, rank_in_code r.code)) row.rights
 
 -- The triples that the block lists, with their ranks.
 abbrev pub triples_of : RankBlock → RankedTriples
@@ -57,8 +59,8 @@ pub record IsRankRowBelow (n labels : ℕ) (row : RankRow) : Type 0 where
 abbrev pub IsRankBlockBelow : ℕ → ℕ → RankBlock → Type 0
 IsRankBlockBelow n labels block = All (IsRankRowBelow n labels) block.rows
 
--- The relation with ranks, on the states and labels of A and with n announced letters, holds just the triples that the block lists, with
--- their ranks.
+-- The relation with ranks, on the states and labels of A and with n announced letters, holds just
+-- the triples that the block lists, with their ranks.
 pub record IsRankingOf (A : Automaton) (n : ℕ) (block : RankBlock) (ranks : Ranking) : Type 0 where
   pub states : ranks.states ≡ A.states
   pub labels : ranks.labels ≡ A.labels

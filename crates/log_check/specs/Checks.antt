@@ -23,14 +23,16 @@ AllHold (c ∷ cs) = c.Met × AllHold cs
 abbrev pub FirstBroken : List RuleCheck → Refusal → Type 0
 FirstBroken [] refusal = ⊥
 FirstBroken (c ∷ cs) refusal =
-    ((c.Met → ⊥) × (refusal ≡ record { rule = c.rule; item = c.item })) ⊎ (c.Met × FirstBroken cs refusal)
+    ((c.Met → ⊥) × (refusal ≡ record { rule = c.rule; item = c.item }))
+    ⊎ (c.Met × FirstBroken cs refusal)
 
 -- The checks of each thing of a list, in order; the first thing has this number.
 abbrev pub checks_of_each : {X : Type 0} → (ℕ → X → List RuleCheck) → ℕ → List X → List RuleCheck
 checks_of_each checks n [] = []
 checks_of_each checks n (x ∷ xs) = checks n x ++ checks_of_each checks (suc n) xs
 
--- A test of these checks: with a value all of them hold, and a refusal is the first that does not. Memory may be refused.
+-- A test of these checks: with a value all of them hold, and a refusal is the first that does not.
+-- Memory may be refused.
 abbrev pub Tells : {X : Type 0} → List RuleCheck → Result X CheckFault → Type 0
 Tells checks (Ok x) = AllHold checks
 Tells checks (Err (Refused refusal)) = FirstBroken checks refusal

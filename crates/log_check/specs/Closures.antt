@@ -23,7 +23,8 @@ IsRowJoined classes rel n p = (q : ℕ) → q < n → IsJoinedInClass classes re
 abbrev pub JoinsMembers : List ℕ → Relation → ℕ → Type 0
 JoinsMembers classes rel n = (p : ℕ) → p < n → IsRowJoined classes rel n p
 
--- The second transition has the letter of the first, and the tables relate the ends of the first to its own.
+-- The second transition has the letter of the first, and the tables relate the ends of the first to
+-- its own.
 abbrev pub IsAsGoodBy : Automaton → Relation → Relation → GoneBy → Type 0
 IsAsGoodBy A back ahead gone =
     ((trans_at A gone.trans).label ≡ (trans_at A gone.by).label)
@@ -32,11 +33,13 @@ IsAsGoodBy A back ahead gone =
 
 -- The table does not relate the source of the second transition back to that of the first.
 abbrev pub IsSourceBetter : Automaton → Relation → GoneBy → Type 0
-IsSourceBetter A back gone = Holds back.pairs (trans_at A gone.by).source (trans_at A gone.trans).source → ⊥
+IsSourceBetter A back gone =
+    Holds back.pairs (trans_at A gone.by).source (trans_at A gone.trans).source → ⊥
 
 -- Nor the target of the second to that of the first.
 abbrev pub IsTargetBetter : Automaton → Relation → GoneBy → Type 0
-IsTargetBetter A ahead gone = Holds ahead.pairs (trans_at A gone.by).target (trans_at A gone.trans).target → ⊥
+IsTargetBetter A ahead gone =
+    Holds ahead.pairs (trans_at A gone.by).target (trans_at A gone.trans).target → ⊥
 
 -- The one of the two that the pair asks for.
 abbrev pub IsBetterBy : Automaton → ℕ → Relation → Relation → GoneBy → Type 0

@@ -39,7 +39,8 @@ SecondLogShrinks =
 -- Two logs lead to one pair of automata at most.
 abbrev pub EndsAreOne : Type 0
 EndsAreOne =
-    (mode : Mode) (A B : Automaton) (firsts : List FirstStep) (seconds : List SecondStep) (ends other : Ends)
+    (mode : Mode) (A B : Automaton) (firsts : List FirstStep) (seconds : List SecondStep)
+    (ends other : Ends)
     → AreEnds mode A B firsts seconds ends
     → AreEnds mode A B firsts seconds other
     → ends ≡ other
@@ -47,7 +48,8 @@ EndsAreOne =
 -- Two logs break one rule first, at most.
 abbrev pub BreakIsOne : Type 0
 BreakIsOne =
-    (mode : Mode) (A B : Automaton) (firsts : List FirstStep) (seconds : List SecondStep) (refusal other : Refusal)
+    (mode : Mode) (A B : Automaton) (firsts : List FirstStep) (seconds : List SecondStep)
+    (refusal other : Refusal)
     → LogsBreak mode A B firsts seconds refusal
     → LogsBreak mode A B firsts seconds other
     → refusal ≡ other
@@ -55,7 +57,8 @@ BreakIsOne =
 -- Where two logs lead to two automata, they break no rule.
 abbrev pub NoneBreaksWithEnds : Type 0
 NoneBreaksWithEnds =
-    (mode : Mode) (A B : Automaton) (firsts : List FirstStep) (seconds : List SecondStep) (refusal : Refusal) (ends : Ends)
+    (mode : Mode) (A B : Automaton) (firsts : List FirstStep) (seconds : List SecondStep)
+    (refusal : Refusal) (ends : Ends)
     → LogsBreak mode A B firsts seconds refusal
     → AreEnds mode A B firsts seconds ends
     → ⊥

@@ -15,6 +15,7 @@ AreTransitions A numbers = All (λ t. t < length A.transitions) numbers
 abbrev pub IsLook : ℕ → Type 0
 IsLook look = (1 ≤ look) × (look ≤ 6)
 
--- The list has a class for each state of A, and they are numbered in the order in which they appear.
+-- The list has a class for each state of A, and they are numbered in the order in which they
+-- appear.
 abbrev pub AreClassesFor : Automaton → List ℕ → Type 0
 AreClassesFor A classes = (length classes ≡ A.states) × AreClasses classes

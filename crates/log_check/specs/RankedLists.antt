@@ -10,7 +10,8 @@ use Rattle.cert_value.specs.declared.types.Ranked.{Ranked}
 
 -- The triples of a row.
 abbrev pub row_list : RankRow → List RankedTriple
-row_list row = map (λ (r : Ranked). ranked_triple row.left row.ahead r.right (rank_in_code r.code)) row.rights
+row_list row =
+    map (λ (r : Ranked). ranked_triple row.left row.ahead r.right (rank_in_code r.code)) row.rights
 
 -- The triples of the block.
 abbrev pub block_list : RankBlock → List RankedTriple

@@ -17,12 +17,14 @@ use Rattle.log_check.specs.Blocks.{pairs_of, IsBlockBelow, triples_of, IsRankBlo
 use Rattle.log_check.specs.Parts.{AreStates, AreTransitions, IsLook, AreClassesFor}
 use Rattle.log_check.specs.Follows.{LogRules, Follows, Breaks}
 
--- What the grounds of a merge name is there: the lookahead is one of 1 to 6, and the block names states of A.
+-- What the grounds of a merge name is there: the lookahead is one of 1 to 6, and the block names
+-- states of A.
 abbrev pub IsBlockIn : Automaton → ℕ → RelBlock → Type 0
 IsBlockIn A look block = IsLook look × IsBlockBelow A.states block
 
--- What is asked of a merge: what its grounds name is there, its classes are in shape, its relation is stable, or right with its ranks, and
--- the closure of it, or of its state relation, relates any two members of a class.
+-- What is asked of a merge: what its grounds name is there, its classes are in shape, its relation
+-- is stable, or right with its ranks, and the closure of it, or of its state relation, relates any
+-- two members of a class.
 abbrev pub merge_checks : Automaton → ℕ → Grounds → List ℕ → List RuleCheck
 merge_checks A item (Forward look block) classes =
     rule_at 1 item (IsBlockIn A look block)
@@ -40,7 +42,8 @@ merge_checks A item (Delayed letters ranks) classes =
     rule_at 1 item (IsRankBlockBelow A.states A.labels ranks)
     ∷ rule_at 3 item (AreClassesFor A classes)
     ∷ rule_at 5 item (IsRight A (triples_of ranks))
-    ∷ rule_at 6 item (RelatesMembersBy A classes (AreStateRelated A.labels letters (triples_of ranks)))
+    ∷ rule_at 6 item
+    (RelatesMembersBy A classes (AreStateRelated A.labels letters (triples_of ranks)))
     ∷ []
 
 -- What is asked of a step: a trim and a cut name what is there, and need nothing more.
@@ -49,7 +52,8 @@ second_checks A item (Trim kept) = rule_at 1 item (AreStates A kept) ∷ []
 second_checks A item (Merge by classes) = merge_checks A item by classes
 second_checks A item (Cut gone) = rule_at 1 item (AreTransitions A gone) ∷ []
 
--- A trim keeps the listed states, a merge has the classes for states, and a cut takes the listed transitions away.
+-- A trim keeps the listed states, a merge has the classes for states, and a cut takes the listed
+-- transitions away.
 abbrev pub SecondStepLeads : Automaton → SecondStep → Automaton → Type 0
 SecondStepLeads A (Trim kept) B = IsKeptPart A kept B
 SecondStepLeads A (Merge by classes) B = IsQuotient A classes B

@@ -16,7 +16,8 @@ fn is_row_below(states: u32, row: &Row) -> bool
     row.left < states && row.runs.as_slice().iter().all(|run| run.last < states)
 }
 
-/// Tells whether the numbers of the block are those of states, of which there are so many. No run is taken apart for that.
+/// Tells whether the numbers of the block are those of states, of which there are so many. No run
+/// is taken apart for that.
 pub fn is_block_below(states: u32, block: &RelBlock) -> bool
     ensures { IsTrue result ↔ IsBlockBelow states block.now }
 {
@@ -32,7 +33,9 @@ fn add_run(rel: &mut Rel, left: u32, run: Run)
     requires left { left < rel.old.size }
     requires last { run.last < rel.old.size }
     ensures size { rel.new.size ≡ rel.old.size }
-    ensures pairs { (p q : ℕ) → Holds rel.new.pairs p q ↔ (Holds rel.old.pairs p q ⊎ Holds (pairs_with left (run_numbers run)) p q) }
+    ensures pairs { (p q : ℕ)
+        → Holds rel.new.pairs p q
+        ↔ (Holds rel.old.pairs p q ⊎ Holds (pairs_with left (run_numbers run)) p q) }
 {
     for right in run.first as u64..run.last as u64 + 1 {
         rel.set(left, right as u32);
@@ -42,7 +45,8 @@ fn add_run(rel: &mut Rel, left: u32, run: Run)
 fn add_row(rel: &mut Rel, row: &Row)
     requires { IsRowBelow rel.old.size row.now }
     ensures size { rel.new.size ≡ rel.old.size }
-    ensures pairs { (p q : ℕ) → Holds rel.new.pairs p q ↔ (Holds rel.old.pairs p q ⊎ Holds (pairs_of_row row.now) p q) }
+    ensures pairs { (p q : ℕ)
+        → Holds rel.new.pairs p q ↔ (Holds rel.old.pairs p q ⊎ Holds (pairs_of_row row.now) p q) }
 {
     for run in row.runs.as_slice() {
         add_run(rel, row.left, *run);

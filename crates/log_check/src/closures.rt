@@ -50,7 +50,8 @@ fn equality(alloc: Global, states: u32) -> Result<Rel, Memory>
     Ok(rel)
 }
 
-/// The closure of a cut's backward relation; None where that is not stable. Pair 1 has none, and asks for equal states.
+/// The closure of a cut's backward relation; None where that is not stable. Pair 1 has none, and
+/// asks for equal states.
 pub(crate) fn back_closure(
     alloc: Global,
     automaton: &Auto,
@@ -75,7 +76,8 @@ pub(crate) fn back_closure(
     }
 }
 
-/// The closure of a cut's forward relation; None where that is not stable. Pair 2 has none, and asks for equal states.
+/// The closure of a cut's forward relation; None where that is not stable. Pair 2 has none, and
+/// asks for equal states.
 pub(crate) fn ahead_closure(
     alloc: Global,
     automaton: &Auto,

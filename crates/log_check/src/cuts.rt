@@ -53,7 +53,8 @@ pub(crate) fn is_cut_in(automaton: &Auto, look: u32, gone: &[GoneBy], blocks: &[
     is_look(look) && are_gone_in(automaton, gone) && are_blocks_below(states, blocks)
 }
 
-/// Tells whether the second transition has the letter of the first, and its ends are related to those of the first.
+/// Tells whether the second transition has the letter of the first, and its ends are related to
+/// those of the first.
 fn is_as_good(automaton: &Auto, back: &Rel, ahead: &Rel, gone: GoneBy) -> bool
     requires gone_in { IsGoneIn automaton.now gone }
     requires back { back.now.size ≡ automaton.now.states }
@@ -83,7 +84,8 @@ pub(crate) fn are_as_good(automaton: &Auto, back: &Rel, ahead: &Rel, gone: &[Gon
     true
 }
 
-/// Tells whether the relation whose strict part the pair asks for does not relate their ends the other way round.
+/// Tells whether the relation whose strict part the pair asks for does not relate their ends the
+/// other way round.
 fn is_better(automaton: &Auto, pair: u32, back: &Rel, ahead: &Rel, gone: GoneBy) -> bool
     requires pair { 0 < blocks_due pair }
     requires gone_in { IsGoneIn automaton.now gone }

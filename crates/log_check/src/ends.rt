@@ -62,7 +62,8 @@ fn second_end(
     item: u32,
     steps: &[SecondStep],
 ) -> Result<Auto, CheckFault>
-    requires formed { (version : ℕ) × (mode : Mode) × (list_all (is_second_step version mode) steps.now ≡ true) }
+    requires formed { (version : ℕ) × (mode : Mode)
+        × (list_all (is_second_step version mode) steps.now ≡ true) }
     requires few { length steps.now < 10 ^ 9 }
     requires low { item ≤ 10 ^ 9 }
     ensures { TellsLog SecondStep second_rules automaton.now item steps.now result }
@@ -74,8 +75,9 @@ fn second_end(
     Ok(end)
 }
 
-/// The automata that both logs lead to, each step tested by its rules on the automaton that the steps before it lead to; otherwise the
-/// first rule that is broken, or want of memory. The steps are well-formed in one version.
+/// The automata that both logs lead to, each step tested by its rules on the automaton that the
+/// steps before it lead to; otherwise the first rule that is broken, or want of memory. The steps
+/// are well-formed in one version.
 pub fn log_ends(
     alloc: Global,
     mode: Mode,
@@ -85,7 +87,8 @@ pub fn log_ends(
     seconds: &[SecondStep],
 ) -> Result<Ends, CheckFault>
     requires first_formed { list_all is_first_step firsts.now ≡ true }
-    requires second_formed { (version : ℕ) × (list_all (is_second_step version mode) seconds.now ≡ true) }
+    requires second_formed { (version : ℕ)
+        × (list_all (is_second_step version mode) seconds.now ≡ true) }
     requires few_first { length firsts.now < 10 ^ 9 }
     requires few_second { length seconds.now < 10 ^ 9 }
     ensures tells { TellsBothLogs mode first.now second.now firsts.now seconds.now result }

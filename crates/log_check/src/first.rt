@@ -25,7 +25,8 @@ fn trim_to(
     item: u32,
     kept: &[u32],
 ) -> Result<Auto, CheckFault>
-    ensures { TellsStep FirstStep (first_rules mode) automaton.now item (FirstStep.Trim kept.now) result }
+    ensures { TellsStep FirstStep (first_rules mode) automaton.now item (FirstStep.Trim kept.now)
+        result }
 {
     if !are_states(automaton, kept) {
         return Err(CheckFault::Refused(Refusal { rule: 1, item }));
@@ -38,7 +39,9 @@ fn trim_to(
 
 /// Makes the states of each class one.
 fn merge_by(alloc: Global, automaton: &Auto, item: u32, numbers: &[u32]) -> Result<Auto, CheckFault>
-    ensures { (mode : Mode) → TellsStep FirstStep (first_rules mode) automaton.now item (FirstStep.Merge numbers.now) result }
+    ensures { (mode : Mode)
+        → TellsStep FirstStep (first_rules mode) automaton.now item (FirstStep.Merge numbers.now)
+        result }
 {
     let Some(classes) = classes_for(alloc, automaton, numbers)? else {
         return Err(CheckFault::Refused(Refusal { rule: 3, item }));
@@ -57,7 +60,9 @@ fn cut_by(
     blocks: &[RelBlock],
 ) -> Result<Auto, CheckFault>
     requires { is_cut pair look gone.now blocks.now ≡ true }
-    ensures { (mode : Mode) → TellsStep FirstStep (first_rules mode) automaton.now item (FirstStep.Cut pair look gone.now blocks.now) result }
+    ensures { (mode : Mode)
+        → TellsStep FirstStep (first_rules mode) automaton.now item
+        (FirstStep.Cut pair look gone.now blocks.now) result }
 {
     if !is_cut_in(automaton, look, gone, blocks) {
         return Err(CheckFault::Refused(Refusal { rule: 1, item }));
@@ -77,8 +82,8 @@ fn cut_by(
     Ok(without(alloc, automaton, gone)?)
 }
 
-/// What the step makes of the automaton, if it keeps its rules; otherwise the first of them that it breaks, or want of memory. The step
-/// is well-formed.
+/// What the step makes of the automaton, if it keeps its rules; otherwise the first of them that it
+/// breaks, or want of memory. The step is well-formed.
 pub(crate) fn first_step(
     alloc: Global,
     mode: Mode,

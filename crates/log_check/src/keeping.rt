@@ -25,7 +25,8 @@ fn set_of(alloc: Global, automaton: &Auto, kept: &[u32]) -> Result<StateSet, Mem
 fn is_within(one: &StateSet, other: &StateSet, states: u32) -> bool
     requires first { one.now.states ≡ states }
     requires second { other.now.states ≡ states }
-    ensures { IsTrue result ↔ ((q : ℕ) → q < states → Contains one.now.members q → Contains other.now.members q) }
+    ensures { IsTrue result
+        ↔ ((q : ℕ) → q < states → Contains one.now.members q → Contains other.now.members q) }
 {
     for state in 0..states {
         if one.has(state) && !other.has(state) {
@@ -43,7 +44,9 @@ pub(crate) fn lists_useful(
     kept: &[u32],
 ) -> Result<bool, Memory>
     requires { AreStates automaton.now kept.now }
-    ensures { IfOk result (λ told. IsTrue told ↔ ((q : ℕ) → IsUseful automaton.now mode q → Contains kept.now q)) }
+    ensures { IfOk
+        result (λ told.
+        IsTrue told ↔ ((q : ℕ) → IsUseful automaton.now mode q → Contains kept.now q)) }
 {
     let set = set_of(alloc, automaton, kept)?;
     let needed = useful(alloc, automaton, mode)?;

@@ -1,4 +1,5 @@
-//! Tests the logs of a certificate: each step by its rules, on the automaton that the steps before it lead to, which is then carried on.
+//! Tests the logs of a certificate: each step by its rules, on the automaton that the steps before
+//! it lead to, which is then carried on.
 #![tactic(auto)]
 
 mod blocks;

@@ -24,7 +24,8 @@ fn is_rank_row_below(states: u32, labels: u32, row: &RankRow) -> bool
             .all(|ranked| ranked.right < states)
 }
 
-/// Tells whether the states of the block are those of the automaton, and the letters of its words labels.
+/// Tells whether the states of the block are those of the automaton, and the letters of its words
+/// labels.
 pub(crate) fn is_rank_block_below(automaton: &Auto, block: &RankBlock) -> bool
     ensures { IsTrue result ↔ IsRankBlockBelow automaton.now.states automaton.now.labels block.now }
 {
@@ -63,7 +64,8 @@ fn listed_triples(alloc: Global, block: &RankBlock) -> Result<Vec<RankedTriple>,
     Ok(triples)
 }
 
-/// The relation with ranks that the block lists, on the states of the automaton and with so many announced letters.
+/// The relation with ranks that the block lists, on the states of the automaton and with so many
+/// announced letters.
 pub(crate) fn ranking_of(
     alloc: Global,
     automaton: &Auto,

@@ -28,7 +28,8 @@ use std::alloc::Global;
 
 /// Keeps the listed states.
 fn trim_to(alloc: Global, automaton: &Auto, item: u32, kept: &[u32]) -> Result<Auto, CheckFault>
-    ensures { TellsStep SecondStep second_rules automaton.now item (SecondStep.Trim kept.now) result }
+    ensures { TellsStep SecondStep second_rules automaton.now item (SecondStep.Trim kept.now)
+        result }
 {
     if !are_states(automaton, kept) {
         return Err(CheckFault::Refused(Refusal { rule: 1, item }));
@@ -88,7 +89,8 @@ fn merge_delayed(
     requires letters_from { 1 ≤ letters }
     requires letters_upto { letters ≤ 4 }
     requires formed { is_rank_block letters ranks.now ≡ true }
-    ensures { TellsStep SecondStep second_rules automaton.now item (SecondStep.Merge (Grounds.Delayed letters ranks.now) numbers.now) result }
+    ensures { TellsStep SecondStep second_rules automaton.now item
+        (SecondStep.Merge (Grounds.Delayed letters ranks.now) numbers.now) result }
 {
     if !is_rank_block_below(automaton, ranks) {
         return Err(CheckFault::Refused(Refusal { rule: 1, item }));
@@ -117,7 +119,8 @@ fn merge_by(
     numbers: &[u32],
 ) -> Result<Auto, CheckFault>
     requires { (version : ℕ) × (mode : Mode) × (are_grounds version mode by.now ≡ true) }
-    ensures { TellsStep SecondStep second_rules automaton.now item (SecondStep.Merge by.now numbers.now) result }
+    ensures { TellsStep SecondStep second_rules automaton.now item
+        (SecondStep.Merge by.now numbers.now) result }
 {
     match by {
         Grounds::Forward { look, rel } => {
@@ -135,7 +138,8 @@ fn merge_by(
 /// Takes the listed transitions away.
 fn cut_to(alloc: Global, automaton: &Auto, item: u32, gone: &[u32]) -> Result<Auto, CheckFault>
     requires { ascend gone.now ≡ true }
-    ensures { TellsStep SecondStep second_rules automaton.now item (SecondStep.Cut gone.now) result }
+    ensures { TellsStep SecondStep second_rules automaton.now item (SecondStep.Cut gone.now)
+        result }
 {
     if !are_transitions(automaton, gone) {
         return Err(CheckFault::Refused(Refusal { rule: 1, item }));
@@ -143,8 +147,8 @@ fn cut_to(alloc: Global, automaton: &Auto, item: u32, gone: &[u32]) -> Result<Au
     Ok(cut_listed(alloc, automaton, gone)?)
 }
 
-/// What the step makes of the automaton, if it keeps its rules; otherwise the first of them that it breaks, or want of memory. The step
-/// is well-formed.
+/// What the step makes of the automaton, if it keeps its rules; otherwise the first of them that it
+/// breaks, or want of memory. The step is well-formed.
 pub(crate) fn second_step(
     alloc: Global,
     automaton: &Auto,

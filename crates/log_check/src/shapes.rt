@@ -30,7 +30,8 @@ pub(crate) fn is_look(look: u32) -> bool
     1 <= look && look <= 6
 }
 
-/// The classes with these numbers; None where there is not one for each state, or they are not in the order in which they appear.
+/// The classes with these numbers; None where there is not one for each state, or they are not in
+/// the order in which they appear.
 pub(crate) fn classes_for(
     alloc: Global,
     automaton: &Auto,

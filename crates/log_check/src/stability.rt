@@ -9,7 +9,8 @@ use bit_rel::Rel;
 use look_round::{Scratch, Side, round_holds};
 use std::alloc::Global;
 
-/// Tells whether the pair, if the relation has it, has its round, and the second state what the first asks of it.
+/// Tells whether the pair, if the relation has it, has its round, and the second state what the
+/// first asks of it.
 fn is_pair_stable<S: Side>(
     side: &S,
     automaton: &Auto,
@@ -25,7 +26,9 @@ fn is_pair_stable<S: Side>(
     requires made { scratch.old ≡ record { states = automaton.now.states; look = look } }
     requires left { p < automaton.now.states }
     requires right { q < automaton.now.states }
-    ensures told { IsTrue result ↔ IsPairStable (S.goes side.now automaton.now) (S.matches side.now automaton.now) look (Holds rel.now.pairs) p q }
+    ensures told { IsTrue result
+        ↔ IsPairStable (S.goes side.now automaton.now) (S.matches side.now automaton.now) look
+        (Holds rel.now.pairs) p q }
     ensures scratch { scratch.new ≡ scratch.old }
 {
     if !rel.get(p, q) {
@@ -48,7 +51,9 @@ fn is_row_stable<S: Side>(
     requires equal { rel.now.size ≡ automaton.now.states }
     requires made { scratch.old ≡ record { states = automaton.now.states; look = look } }
     requires left { p < automaton.now.states }
-    ensures told { IsTrue result ↔ IsRowStable (S.goes side.now automaton.now) (S.matches side.now automaton.now) look (Holds rel.now.pairs) automaton.now.states p }
+    ensures told { IsTrue result
+        ↔ IsRowStable (S.goes side.now automaton.now) (S.matches side.now automaton.now) look
+        (Holds rel.now.pairs) automaton.now.states p }
     ensures scratch { scratch.new ≡ scratch.old }
 {
     for q in 0..automaton.states() {

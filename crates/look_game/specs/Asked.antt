@@ -10,4 +10,5 @@ IsLost S (Some pair) = Holds S pair.left pair.right → ⊥
 
 -- A pair has to stay, and no stable list of pairs of states below n has it.
 abbrev pub IsNeverKept : (ℕ → ℕ → ℕ → Type 0) → (ℕ → ℕ → Type 0) → ℕ → ℕ → Option Pair → Type 0
-IsNeverKept M ok k n asked = (T : List (ℕ × ℕ)) → ArePairsBelow n n T → Stable M M ok k (Holds T) → IsLost T asked
+IsNeverKept M ok k n asked =
+    (T : List (ℕ × ℕ)) → ArePairsBelow n n T → Stable M M ok k (Holds T) → IsLost T asked

@@ -1,4 +1,5 @@
--- Which rows a change of others can touch: a round from p ends in states that are reached from p in as many moves as are looked ahead.
+-- Which rows a change of others can touch: a round from p ends in states that are reached from p in
+-- as many moves as are looked ahead.
 use Rattle.std.specs.Prelude.{◌≡◌, ℕ, zero, suc, ◌<◌, ◌⊎◌, List}
 use Rattle.auto_core.specs.Rows.{HasBit}
 use Rattle.bit_rel.specs.Relation.{Relation}
@@ -15,7 +16,8 @@ IsFarFrom M k marks p = (r : ℕ) → HasBit marks r → IsReachedWithin M k p r
 
 -- Of the states below n, each from which a marked state is reached so has its bit in `near`.
 abbrev pub MarksNear : (ℕ → ℕ → ℕ → Type 0) → ℕ → ℕ → List ℕ → List ℕ → Type 0
-MarksNear M n k marks near = (p r : ℕ) → p < n → HasBit marks r → IsReachedWithin M k p r → HasBit near p
+MarksNear M n k marks near =
+    (p r : ℕ) → p < n → HasBit marks r → IsReachedWithin M k p r → HasBit near p
 
 -- Each pair whose left state is not marked has its round.
 abbrev pub HasOtherRounds : (ℕ → ℕ → ℕ → Type 0) → (ℕ → ℕ → Type 0) → ℕ → Relation → List ℕ → Type 0

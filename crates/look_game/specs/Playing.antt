@@ -10,4 +10,6 @@ pub record PlaysOn {S : Type 0} {G : Ghosts S} (old new : Play S G) : Type 0 whe
   pub side : new.side ≡ old.side
   pub automaton : new.automaton ≡ old.automaton
   pub look : new.look ≡ old.look
-  pub takes : IsRelation old.rel → TakesAway (G.goes old.side.now old.automaton.now) (G.matches old.side.now old.automaton.now) old.look old.rel new.rel
+  pub takes : IsRelation old.rel
+      → TakesAway (G.goes old.side.now old.automaton.now) (G.matches old.side.now old.automaton.now)
+      old.look old.rel new.rel

@@ -3,7 +3,8 @@ use Rattle.std.specs.Prelude.{◌≡◌, ℕ, ◌<◌, ◌↔◌, ◌⊎◌, Lis
 use Rattle.auto_core.specs.Game.{Round, Stable, Holds, ArePairsBelow, IsWithin}
 use Rattle.bit_rel.specs.Relation.{Relation, IsRelation}
 
--- The new relation holds besides the old one's pairs those of p and a state below n that matches it.
+-- The new relation holds besides the old one's pairs those of p and a state below n that matches
+-- it.
 pub record AddsMatching (ok : ℕ → ℕ → Type 0) (n p : ℕ) (old new : Relation) : Type 0 where
   pub size : new.size ≡ old.size
   pub valid : IsRelation new
@@ -16,11 +17,13 @@ pub record IsMatching (ok : ℕ → ℕ → Type 0) (n : ℕ) (R : Relation) : T
   pub pairs : (p q : ℕ) → Holds R.pairs p q ↔ ((p < n) × (q < n) × ok p q)
 
 -- Pairs were taken away, but none that some stable list holds which is inside the old relation.
-pub record TakesAway (M : ℕ → ℕ → ℕ → Type 0) (ok : ℕ → ℕ → Type 0) (k : ℕ) (old new : Relation) : Type 0 where
+pub record TakesAway (M : ℕ → ℕ → ℕ → Type 0) (ok : ℕ → ℕ → Type 0) (k : ℕ)
+    (old new : Relation) : Type 0 where
   pub size : new.size ≡ old.size
   pub valid : IsRelation new
   pub within : IsWithin new.pairs old.pairs
-  pub leaves : (T : List (ℕ × ℕ)) → Stable M M ok k (Holds T) → IsWithin T old.pairs → IsWithin T new.pairs
+  pub leaves : (T : List (ℕ × ℕ)) → Stable M M ok k (Holds T) → IsWithin T old.pairs
+      → IsWithin T new.pairs
 
 -- All pairs stay whose left state is not p.
 abbrev pub KeepsOthers : ℕ → Relation → Relation → Type 0
@@ -34,8 +37,10 @@ TakesSome old new = length new.pairs < length old.pairs
 abbrev pub HasRounds : (ℕ → ℕ → ℕ → Type 0) → (ℕ → ℕ → Type 0) → ℕ → Relation → ℕ → Type 0
 HasRounds M ok k R p = (q : ℕ) → Holds R.pairs p q → Round M M ok k (Holds R.pairs) p q
 
--- The pairs are of states below n and match, and each stable list of pairs of such states is inside.
-pub record HasStable (M : ℕ → ℕ → ℕ → Type 0) (ok : ℕ → ℕ → Type 0) (k n : ℕ) (S : List (ℕ × ℕ)) : Type 0 where
+-- The pairs are of states below n and match, and each stable list of pairs of such states is
+-- inside.
+pub record HasStable (M : ℕ → ℕ → ℕ → Type 0) (ok : ℕ → ℕ → Type 0) (k n : ℕ)
+    (S : List (ℕ × ℕ)) : Type 0 where
   pub in_range : ArePairsBelow n n S
   pub matching : (p q : ℕ) → Holds S p q → ok p q
   pub has_each : (T : List (ℕ × ℕ)) → ArePairsBelow n n T → Stable M M ok k (Holds T) → IsWithin T S

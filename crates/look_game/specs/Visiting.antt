@@ -7,7 +7,8 @@ use Rattle.look_round.specs.Answering.{AreRowsOfAnswers}
 use Rattle.look_game.specs.declared.visiting.Visits.{Visits}
 
 -- The room is for n states, and has rows of what is answered at once up to W.
-pub record IsRoomFor (M : ℕ → ℕ → ℕ → Type 0) (ok W : ℕ → ℕ → Type 0) (n : ℕ) (visits : Visits) : Type 0 where
+pub record IsRoomFor (M : ℕ → ℕ → ℕ → Type 0) (ok W : ℕ → ℕ → Type 0) (n : ℕ)
+    (visits : Visits) : Type 0 where
   pub answers : AreRowsOfAnswers M ok W n visits.answering
   pub rest : vec_len visits.rest ≡ (n + 63) / 64
   pub lost : vec_len visits.lost ≡ (n + 63) / 64

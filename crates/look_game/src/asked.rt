@@ -22,7 +22,8 @@ pub struct Pair {
 
 /// Tells whether a pair has to stay and is not there any more.
 pub fn is_lost(rel: &Rel, asked: Option<Pair>) -> bool
-    requires states { IfSome asked (λ pair. (pair.left < rel.now.size) × (pair.right < rel.now.size)) }
+    requires states { IfSome
+        asked (λ pair. (pair.left < rel.now.size) × (pair.right < rel.now.size)) }
     ensures { IsTrue result ↔ IsLost rel.now.pairs asked }
 {
     match asked {
@@ -31,7 +32,8 @@ pub fn is_lost(rel: &Rel, asked: Option<Pair>) -> bool
     }
 }
 
-/// Tells whether the pair stays where all pairs that match are related and some rounds are played on from it. If not, no stable list has it.
+/// Tells whether the pair stays where all pairs that match are related and some rounds are played
+/// on from it. If not, no stable list has it.
 pub fn may_stay<S: Side>(
     alloc: Global,
     side: &S,

@@ -21,8 +21,9 @@ use look_round::{Scratch, Side, bound};
 use row_steps::mark_below;
 use std::alloc::Global;
 
-/// Takes away pairs of the marked rows that do not have their round, each pair being tried once, and tells whether there were
-/// any. The last rows come first, since moves mostly lead on to later states. `changed` is made to mark the rows that lost pairs.
+/// Takes away pairs of the marked rows that do not have their round, each pair being tried once,
+/// and tells whether there were any. The last rows come first, since moves mostly lead on to later
+/// states. `changed` is made to mark the rows that lost pairs.
 fn pass<S: Side>(
     side: &S,
     automaton: &Auto,
@@ -39,16 +40,22 @@ fn pass<S: Side>(
     requires made { scratch.old ≡ record { states = automaton.now.states; look = look } }
     requires marks_len { length marks.now ≡ (automaton.now.states + 63) / 64 }
     requires changed_len { length changed.old ≡ (automaton.now.states + 63) / 64 }
-    requires others { HasOtherRounds (S.goes side.now automaton.now) (S.matches side.now automaton.now) look rel.old marks.now }
-    requires ready { IsRoomFor (S.goes side.now automaton.now) (S.matches side.now automaton.now) (Holds rel.old.pairs) automaton.now.states visits.old }
-    ensures takes { TakesAway (S.goes side.now automaton.now) (S.matches side.now automaton.now) look rel.old rel.new }
+    requires others { HasOtherRounds (S.goes side.now automaton.now)
+        (S.matches side.now automaton.now) look rel.old marks.now }
+    requires ready { IsRoomFor (S.goes side.now automaton.now) (S.matches side.now automaton.now)
+        (Holds rel.old.pairs) automaton.now.states visits.old }
+    ensures takes { TakesAway (S.goes side.now automaton.now) (S.matches side.now automaton.now)
+        look rel.old rel.new }
     ensures some { result ≡ true → TakesSome rel.old rel.new }
-    ensures none { result ≡ false → (p : ℕ) → HasRounds (S.goes side.now automaton.now) (S.matches side.now automaton.now) look rel.new p }
+    ensures none { result ≡ false → (p : ℕ)
+        → HasRounds (S.goes side.now automaton.now) (S.matches side.now automaton.now) look rel.new
+        p }
     ensures apart { (p : ℕ)
         → IsFarFrom (S.goes side.now automaton.now) look changed.new p
         → HasRounds (S.goes side.now automaton.now) (S.matches side.now automaton.now) look rel.new p }
     ensures scratch { scratch.new ≡ scratch.old }
-    ensures ready { IsRoomFor (S.goes side.now automaton.now) (S.matches side.now automaton.now) (Holds rel.new.pairs) automaton.now.states visits.new }
+    ensures ready { IsRoomFor (S.goes side.now automaton.now) (S.matches side.now automaton.now)
+        (Holds rel.new.pairs) automaton.now.states visits.new }
 {
     rows::clear_row(changed);
     let mut any = false;
@@ -63,8 +70,8 @@ fn pass<S: Side>(
     any
 }
 
-/// Takes pairs away until each that is left has its round, and tells that; or until the pair that is asked for is lost. The three rows are
-/// room.
+/// Takes pairs away until each that is left has its round, and tells that; or until the pair that
+/// is asked for is lost. The three rows are room.
 fn settle<S: Side>(
     side: &S,
     automaton: &Auto,
@@ -80,15 +87,20 @@ fn settle<S: Side>(
     requires valid { IsAutomaton automaton.now }
     requires look_from { 1 ≤ look }
     requires look_upto { look ≤ 6 }
-    requires asked_states { IfSome asked (λ pair. (pair.left < automaton.now.states) × (pair.right < automaton.now.states)) }
+    requires asked_states { IfSome
+        asked (λ pair. (pair.left < automaton.now.states) × (pair.right < automaton.now.states)) }
     requires equal { rel.old.size ≡ automaton.now.states }
     requires made { scratch.old ≡ record { states = automaton.now.states; look = look } }
     requires marks_len { length marks.old ≡ (automaton.now.states + 63) / 64 }
     requires changed_len { length changed.old ≡ (automaton.now.states + 63) / 64 }
     requires spare_len { length spare.old ≡ (automaton.now.states + 63) / 64 }
-    requires ready { IsRoomFor (S.goes side.now automaton.now) (S.matches side.now automaton.now) (Holds rel.old.pairs) automaton.now.states visits.old }
-    ensures takes { TakesAway (S.goes side.now automaton.now) (S.matches side.now automaton.now) look rel.old rel.new }
-    ensures rounds { result ≡ true → (p : ℕ) → HasRounds (S.goes side.now automaton.now) (S.matches side.now automaton.now) look rel.new p }
+    requires ready { IsRoomFor (S.goes side.now automaton.now) (S.matches side.now automaton.now)
+        (Holds rel.old.pairs) automaton.now.states visits.old }
+    ensures takes { TakesAway (S.goes side.now automaton.now) (S.matches side.now automaton.now)
+        look rel.old rel.new }
+    ensures rounds { result ≡ true → (p : ℕ)
+        → HasRounds (S.goes side.now automaton.now) (S.matches side.now automaton.now) look rel.new
+        p }
     ensures lost { result ≡ false → IsLost rel.new.pairs asked }
 {
     mark_below(marks, rel.size());
@@ -101,7 +113,8 @@ fn settle<S: Side>(
     true
 }
 
-/// Rows of marks to work with: the states that are still to be tried, those whose rows lost pairs, and one row that is free.
+/// Rows of marks to work with: the states that are still to be tried, those whose rows lost pairs,
+/// and one row that is free.
 #[derive(Drop)]
 struct Marks {
     tried: Vec<u64>,
@@ -123,8 +136,9 @@ impl Marks {
     }
 }
 
-/// Takes pairs away until each that is left has its round, and tells that; or until the pair that is asked for is lost. Where a pair is asked for
-/// the rows are swept over at first. Then a row is tried again only if one that is reached from it within the lookahead has lost a pair.
+/// Takes pairs away until each that is left has its round, and tells that; or until the pair that
+/// is asked for is lost. Where a pair is asked for the rows are swept over at first. Then a row is
+/// tried again only if one that is reached from it within the lookahead has lost a pair.
 fn narrow<S: Side>(
     alloc: Global,
     side: &S,
@@ -135,10 +149,18 @@ fn narrow<S: Side>(
 ) -> Result<bool, Memory>
     requires look_from { 1 ≤ look }
     requires look_upto { look ≤ 6 }
-    requires asked_states { IfSome asked (λ pair. (pair.left < automaton.now.states) × (pair.right < automaton.now.states)) }
+    requires asked_states { IfSome
+        asked (λ pair. (pair.left < automaton.now.states) × (pair.right < automaton.now.states)) }
     requires equal { rel.old.size ≡ automaton.now.states }
-    ensures takes { IfOk result (λ stays. TakesAway (S.goes side.now automaton.now) (S.matches side.now automaton.now) look rel.old rel.new) }
-    ensures rounds { IfOk result (λ stays. stays ≡ true → (p : ℕ) → HasRounds (S.goes side.now automaton.now) (S.matches side.now automaton.now) look rel.new p) }
+    ensures takes { IfOk
+        result (λ stays.
+        TakesAway (S.goes side.now automaton.now) (S.matches side.now automaton.now) look rel.old
+        rel.new) }
+    ensures rounds { IfOk
+        result (λ stays.
+        stays ≡ true → (p : ℕ)
+        → HasRounds (S.goes side.now automaton.now) (S.matches side.now automaton.now) look rel.new
+        p) }
     ensures lost { IfOk result (λ stays. stays ≡ false → IsLost rel.new.pairs asked) }
 {
     let mut scratch = Scratch::new(alloc, automaton, look)?;
@@ -172,8 +194,8 @@ fn narrow<S: Side>(
     ))
 }
 
-/// The greatest relation at this lookahead, sought inside a relation that has each stable list inside; or None, where a pair is asked for that no
-/// stable list has.
+/// The greatest relation at this lookahead, sought inside a relation that has each stable list
+/// inside; or None, where a pair is asked for that no stable list has.
 fn greatest_within<S: Side>(
     alloc: Global,
     side: &S,
@@ -184,12 +206,23 @@ fn greatest_within<S: Side>(
 ) -> Result<Option<Rel>, Memory>
     requires look_from { 1 ≤ look }
     requires look_upto { look ≤ 6 }
-    requires asked_states { IfSome asked (λ pair. (pair.left < automaton.now.states) × (pair.right < automaton.now.states)) }
+    requires asked_states { IfSome
+        asked (λ pair. (pair.left < automaton.now.states) × (pair.right < automaton.now.states)) }
     requires size { first.size ≡ automaton.now.states }
-    requires stable { HasStable (S.goes side.now automaton.now) (S.matches side.now automaton.now) look automaton.now.states first.pairs }
+    requires stable { HasStable (S.goes side.now automaton.now) (S.matches side.now automaton.now)
+        look automaton.now.states first.pairs }
     ensures size { IfOk result (λ found. IfSome found (λ r. r.size ≡ automaton.now.states)) }
-    ensures greatest { IfOk result (λ found. IfSome found (λ r. IsGreatest (S.goes side.now automaton.now) (S.goes side.now automaton.now) (S.matches side.now automaton.now) look automaton.now.states automaton.now.states r.pairs)) }
-    ensures none { IfOk result (λ found. found ≡ None → IsNeverKept (S.goes side.now automaton.now) (S.matches side.now automaton.now) look automaton.now.states asked) }
+    ensures greatest { IfOk
+        result (λ found.
+        IfSome found (λ r.
+        IsGreatest (S.goes side.now automaton.now) (S.goes side.now automaton.now)
+        (S.matches side.now automaton.now) look automaton.now.states automaton.now.states
+        r.pairs)) }
+    ensures none { IfOk
+        result (λ found.
+        found ≡ None
+        → IsNeverKept (S.goes side.now automaton.now) (S.matches side.now automaton.now) look
+        automaton.now.states asked) }
 {
     if is_lost(&first, asked) {
         return Ok(None);
@@ -213,9 +246,13 @@ fn found<S: Side>(
     requires look_from { 1 ≤ look }
     requires look_upto { look ≤ 6 }
     requires size { first.size ≡ automaton.now.states }
-    requires stable { HasStable (S.goes side.now automaton.now) (S.matches side.now automaton.now) look automaton.now.states first.pairs }
+    requires stable { HasStable (S.goes side.now automaton.now) (S.matches side.now automaton.now)
+        look automaton.now.states first.pairs }
     ensures size { IfOk result (λ r. r.size ≡ automaton.now.states) }
-    ensures greatest { IfOk result (λ r. IsGreatest (S.goes side.now automaton.now) (S.goes side.now automaton.now) (S.matches side.now automaton.now) look automaton.now.states automaton.now.states r.pairs) }
+    ensures greatest { IfOk
+        result (λ r.
+        IsGreatest (S.goes side.now automaton.now) (S.goes side.now automaton.now)
+        (S.matches side.now automaton.now) look automaton.now.states automaton.now.states r.pairs) }
 {
     match greatest_within(alloc, side, automaton, look, None, first)? {
         Some(rel) => Ok(rel),
@@ -223,8 +260,8 @@ fn found<S: Side>(
     }
 }
 
-/// The greatest relation on the automaton's states each of whose pairs matches and has its round at this lookahead. It is sought
-/// inside the bound by short words.
+/// The greatest relation on the automaton's states each of whose pairs matches and has its round at
+/// this lookahead. It is sought inside the bound by short words.
 pub fn greatest<S: Side>(
     alloc: Global,
     side: &S,
@@ -234,14 +271,18 @@ pub fn greatest<S: Side>(
     requires look_from { 1 ≤ look }
     requires look_upto { look ≤ 6 }
     ensures size { IfOk result (λ r. r.size ≡ automaton.now.states) }
-    ensures greatest { IfOk result (λ r. IsGreatest (S.goes side.now automaton.now) (S.goes side.now automaton.now) (S.matches side.now automaton.now) look automaton.now.states automaton.now.states r.pairs) }
+    ensures greatest { IfOk
+        result (λ r.
+        IsGreatest (S.goes side.now automaton.now) (S.goes side.now automaton.now)
+        (S.matches side.now automaton.now) look automaton.now.states automaton.now.states r.pairs) }
 {
     let first = bound(alloc, side, automaton)?;
     found(alloc, side, automaton, look, first)
 }
 
-/// The greatest relation at this lookahead, if it has this pair, and None where no stable list has it: the search ends once the pair is lost.
-/// Some rounds are played on from the pair inside the bound before all pairs are tried.
+/// The greatest relation at this lookahead, if it has this pair, and None where no stable list has
+/// it: the search ends once the pair is lost. Some rounds are played on from the pair inside the
+/// bound before all pairs are tried.
 pub fn greatest_with<S: Side>(
     alloc: Global,
     side: &S,
@@ -255,7 +296,12 @@ pub fn greatest_with<S: Side>(
     requires left { left < automaton.now.states }
     requires right { right < automaton.now.states }
     ensures size { IfOk result (λ found. IfSome found (λ r. r.size ≡ automaton.now.states)) }
-    ensures greatest { IfOk result (λ found. IfSome found (λ r. IsGreatest (S.goes side.now automaton.now) (S.goes side.now automaton.now) (S.matches side.now automaton.now) look automaton.now.states automaton.now.states r.pairs)) }
+    ensures greatest { IfOk
+        result (λ found.
+        IfSome found (λ r.
+        IsGreatest (S.goes side.now automaton.now) (S.goes side.now automaton.now)
+        (S.matches side.now automaton.now) look automaton.now.states automaton.now.states
+        r.pairs)) }
     ensures has { IfOk result (λ found. IfSome found (λ r. Holds r.pairs left right)) }
     ensures lacks { IfOk result (λ found. found ≡ None → (T : List (ℕ × ℕ))
         → ArePairsBelow automaton.now.states automaton.now.states T
@@ -281,7 +327,8 @@ pub fn greatest_with<S: Side>(
     }
 }
 
-/// The greatest relation at lookahead 1, sought inside the one at a larger lookahead: what is stable at lookahead 1 is stable at each.
+/// The greatest relation at lookahead 1, sought inside the one at a larger lookahead: what is
+/// stable at lookahead 1 is stable at each.
 pub fn greatest_at_one<S: Side>(
     alloc: Global,
     side: &S,
@@ -291,9 +338,14 @@ pub fn greatest_at_one<S: Side>(
 ) -> Result<Rel, Memory>
     requires look { 1 ≤ look }
     requires size { wider.size ≡ automaton.now.states }
-    requires wider { IsGreatest (S.goes side.now automaton.now) (S.goes side.now automaton.now) (S.matches side.now automaton.now) look automaton.now.states automaton.now.states wider.pairs }
+    requires wider { IsGreatest (S.goes side.now automaton.now) (S.goes side.now automaton.now)
+        (S.matches side.now automaton.now) look automaton.now.states automaton.now.states
+        wider.pairs }
     ensures size { IfOk result (λ r. r.size ≡ automaton.now.states) }
-    ensures greatest { IfOk result (λ r. IsGreatest (S.goes side.now automaton.now) (S.goes side.now automaton.now) (S.matches side.now automaton.now) 1 automaton.now.states automaton.now.states r.pairs) }
+    ensures greatest { IfOk
+        result (λ r.
+        IsGreatest (S.goes side.now automaton.now) (S.goes side.now automaton.now)
+        (S.matches side.now automaton.now) 1 automaton.now.states automaton.now.states r.pairs) }
 {
     if look == 1 {
         return Ok(wider);

@@ -1,5 +1,6 @@
-//! A search for pairs that are lost. It plays on from one pair: the pair is lost where Spoiler has a path such that each pair to which
-//! Duplicator answers it is lost. All other pairs are taken to stay, until the search comes to them.
+//! A search for pairs that are lost. It plays on from one pair: the pair is lost where Spoiler has
+//! a path such that each pair to which Duplicator answers it is lost. All other pairs are taken to
+//! stay, until the search comes to them.
 
 ghost use Rattle.std.specs.Prelude.{◌≡◌, ◌<◌, ◌≤◌, All, IfOk, vec_len};
 ghost use Rattle.bit_rel.specs.Relation.{IsRelation};
@@ -110,7 +111,8 @@ impl<'a, S: Side> Play<'a, S> {
         requires step { step.to < self.now.automaton.now.states }
         requires state { q < self.now.automaton.now.states }
         requires replies { All (λ r. r < self.now.automaton.now.states) replies.old.items }
-        ensures { IfOk result (λ _. All (λ r. r < self.now.automaton.now.states) replies.new.items) }
+        ensures { IfOk
+            result (λ _. All (λ r. r < self.now.automaton.now.states) replies.new.items) }
     {
         for at in 0..self.side.moves(self.automaton, q) {
             let reply = self.side.nth(self.automaton, q, at);
@@ -124,7 +126,8 @@ impl<'a, S: Side> Play<'a, S> {
         Ok(())
     }
 
-    /// The states in which Duplicator, who is in one of these, answers the step, as far as they are few.
+    /// The states in which Duplicator, who is in one of these, answers the step, as far as they are
+    /// few.
     fn replies_to(&self, step: Move, from: &[u32]) -> Result<Vec<u32>, Memory>
         requires step { step.to < self.now.automaton.now.states }
         requires from { All (λ q. q < self.now.automaton.now.states) from.now }
@@ -158,7 +161,8 @@ impl<'a, S: Side> Play<'a, S> {
         }
     }
 
-    /// Tells whether all pairs of Spoiler's state `p` with one of these are lost, where each is tried so deep.
+    /// Tells whether all pairs of Spoiler's state `p` with one of these are lost, where each is
+    /// tried so deep.
     #[cycle(losing)]
     fn all_lose(&mut self, depth: u32, p: u32, replies: &[u32]) -> Result<bool, Memory>
         requires state { p < self.old.automaton.now.states }
@@ -177,8 +181,8 @@ impl<'a, S: Side> Play<'a, S> {
         Ok(true)
     }
 
-    /// Tells whether Spoiler wins by this move, or by it and some after it, `left` in all, where Duplicator is in one of these states and
-    /// each pair is tried so deep.
+    /// Tells whether Spoiler wins by this move, or by it and some after it, `left` in all, where
+    /// Duplicator is in one of these states and each pair is tried so deep.
     #[cycle(losing)]
     fn move_wins(&mut self, depth: u32, left: u32, step: Move, from: &[u32]) -> Result<bool, Memory>
         requires left { 1 ≤ left }
@@ -199,8 +203,8 @@ impl<'a, S: Side> Play<'a, S> {
         self.path_wins(depth, left - 1, step.to, &replies)
     }
 
-    /// Tells whether Spoiler wins by some moves from `p`, at most `left`, where Duplicator is in one of these states and each pair is tried
-    /// so deep.
+    /// Tells whether Spoiler wins by some moves from `p`, at most `left`, where Duplicator is in
+    /// one of these states and each pair is tried so deep.
     #[cycle(losing)]
     fn path_wins(&mut self, depth: u32, left: u32, p: u32, from: &[u32]) -> Result<bool, Memory>
         requires left { 1 ≤ left }
@@ -217,8 +221,9 @@ impl<'a, S: Side> Play<'a, S> {
         Ok(false)
     }
 
-    /// Tells whether the pair is lost. If it is not known to be, it is tried: so many rounds are played on from it, as long as there are
-    /// some left in all, and what is lost by that is taken away.
+    /// Tells whether the pair is lost. If it is not known to be, it is tried: so many rounds are
+    /// played on from it, as long as there are some left in all, and what is lost by that is taken
+    /// away.
     #[cycle(losing)]
     fn loses(&mut self, depth: u32, pair: Pair) -> Result<bool, Memory>
         requires left { pair.left < self.old.automaton.now.states }
@@ -243,7 +248,8 @@ impl<'a, S: Side> Play<'a, S> {
         Ok(!self.rel.get(pair.left, pair.right))
     }
 
-    /// Plays more and more rounds on from the pair, until it is lost or as many are played as may be.
+    /// Plays more and more rounds on from the pair, until it is lost or as many are played as may
+    /// be.
     fn deepen(&mut self, pair: Pair) -> Result<(), Memory>
         requires left { pair.left < self.old.automaton.now.states }
         requires right { pair.right < self.old.automaton.now.states }
@@ -258,7 +264,8 @@ impl<'a, S: Side> Play<'a, S> {
     }
 }
 
-/// What is left of the relation where the game is played on from the pair, and what is lost by that is taken away.
+/// What is left of the relation where the game is played on from the pair, and what is lost by that
+/// is taken away.
 pub fn played_on<S: Side>(
     alloc: Global,
     side: &S,
@@ -272,7 +279,8 @@ pub fn played_on<S: Side>(
     requires left { pair.left < automaton.now.states }
     requires right { pair.right < automaton.now.states }
     requires size { rel.size ≡ automaton.now.states }
-    ensures { IfOk result (TakesAway (S.goes side.now automaton.now) (S.matches side.now automaton.now) look rel) }
+    ensures { IfOk result
+        (TakesAway (S.goes side.now automaton.now) (S.matches side.now automaton.now) look rel) }
 {
     let mut play = Play::new(alloc, side, automaton, look, rel)?;
     play.deepen(pair)?;

@@ -13,7 +13,8 @@ fn moves_into<S: Side>(side: &S, automaton: &Auto, p: u32, marks: &[u64], near: 
     requires state { p < automaton.now.states }
     requires marks_len { length marks.now ≡ (automaton.now.states + 63) / 64 }
     requires near_len { length near.now ≡ (automaton.now.states + 63) / 64 }
-    ensures { result ≡ false → (a m : ℕ) → S.goes side.now automaton.now p a m → (bit_of marks.now m ≡ false) × (bit_of near.now m ≡ false) }
+    ensures { result ≡ false → (a m : ℕ) → S.goes side.now automaton.now p a m
+        → (bit_of marks.now m ≡ false) × (bit_of near.now m ≡ false) }
 {
     for at in 0..side.moves(automaton, p) {
         let to = side.nth(automaton, p, at).to as usize;
@@ -46,8 +47,8 @@ fn step_near<S: Side>(side: &S, automaton: &Auto, marks: &[u64], near: &[u64], n
     }
 }
 
-/// Marks in `near` the states from which a marked state is reached in at least one and at most `look` moves. `spare` is room for
-/// one row.
+/// Marks in `near` the states from which a marked state is reached in at least one and at most
+/// `look` moves. `spare` is room for one row.
 pub fn mark_near<S: Side>(
     side: &S,
     automaton: &Auto,
@@ -60,7 +61,8 @@ pub fn mark_near<S: Side>(
     requires marks_len { length marks.now ≡ (automaton.now.states + 63) / 64 }
     requires near_len { length near.old ≡ (automaton.now.states + 63) / 64 }
     requires spare_len { length spare.old ≡ (automaton.now.states + 63) / 64 }
-    ensures { MarksNear (S.goes side.now automaton.now) automaton.now.states look marks.now near.new }
+    ensures { MarksNear (S.goes side.now automaton.now) automaton.now.states look marks.now
+        near.new }
 {
     rows::clear_row(near);
     for _step in 0..look {

@@ -13,7 +13,8 @@ use std::alloc::Global;
 fn match_row<S: Side>(side: &S, automaton: &Auto, rel: &mut Rel, p: u32)
     requires state { p < automaton.now.states }
     requires equal { rel.old.size ≡ automaton.now.states }
-    ensures { AddsMatching (S.matches side.now automaton.now) automaton.now.states p rel.old rel.new }
+    ensures { AddsMatching (S.matches side.now automaton.now) automaton.now.states p rel.old
+        rel.new }
 {
     for q in 0..rel.size() {
         if side.matched(automaton, p, q) {
@@ -47,10 +48,13 @@ fn play_row<S: Side>(
     requires equal { rel.old.size ≡ automaton.now.states }
     requires made { scratch.old ≡ record { states = automaton.now.states; look = look } }
     requires state { p < automaton.now.states }
-    ensures takes { TakesAway (S.goes side.now automaton.now) (S.matches side.now automaton.now) look rel.old rel.new }
+    ensures takes { TakesAway (S.goes side.now automaton.now) (S.matches side.now automaton.now)
+        look rel.old rel.new }
     ensures some { result ≡ true → TakesSome rel.old rel.new }
     ensures same { result ≡ false → rel.new ≡ rel.old }
-    ensures rounds { result ≡ false → HasRounds (S.goes side.now automaton.now) (S.matches side.now automaton.now) look rel.new p }
+    ensures rounds { result ≡ false
+        → HasRounds (S.goes side.now automaton.now) (S.matches side.now automaton.now) look rel.new
+        p }
     ensures scratch { scratch.new ≡ scratch.old }
 {
     let mut changed = false;
@@ -65,7 +69,8 @@ fn play_row<S: Side>(
     changed
 }
 
-/// Takes away pairs that do not have their round, each pair being tried once, and tells whether there were any.
+/// Takes away pairs that do not have their round, each pair being tried once, and tells whether
+/// there were any.
 fn pass<S: Side>(
     side: &S,
     automaton: &Auto,
@@ -77,9 +82,12 @@ fn pass<S: Side>(
     requires look_upto { look ≤ 6 }
     requires equal { rel.old.size ≡ automaton.now.states }
     requires made { scratch.old ≡ record { states = automaton.now.states; look = look } }
-    ensures takes { TakesAway (S.goes side.now automaton.now) (S.matches side.now automaton.now) look rel.old rel.new }
+    ensures takes { TakesAway (S.goes side.now automaton.now) (S.matches side.now automaton.now)
+        look rel.old rel.new }
     ensures some { result ≡ true → TakesSome rel.old rel.new }
-    ensures rounds { result ≡ false → (p : ℕ) → HasRounds (S.goes side.now automaton.now) (S.matches side.now automaton.now) look rel.new p }
+    ensures rounds { result ≡ false → (p : ℕ)
+        → HasRounds (S.goes side.now automaton.now) (S.matches side.now automaton.now) look rel.new
+        p }
     ensures scratch { scratch.new ≡ scratch.old }
 {
     let mut changed = false;
@@ -91,8 +99,8 @@ fn pass<S: Side>(
     changed
 }
 
-/// The greatest relation on the automaton's states each of whose pairs matches and has its round at this lookahead. All pairs
-/// are tried again and again, until none is taken away.
+/// The greatest relation on the automaton's states each of whose pairs matches and has its round at
+/// this lookahead. All pairs are tried again and again, until none is taken away.
 pub fn greatest_by_rounds<S: Side>(
     alloc: Global,
     side: &S,
@@ -102,7 +110,10 @@ pub fn greatest_by_rounds<S: Side>(
     requires look_from { 1 ≤ look }
     requires look_upto { look ≤ 6 }
     ensures size { IfOk result (λ r. r.size ≡ automaton.now.states) }
-    ensures greatest { IfOk result (λ r. IsGreatest (S.goes side.now automaton.now) (S.goes side.now automaton.now) (S.matches side.now automaton.now) look automaton.now.states automaton.now.states r.pairs) }
+    ensures greatest { IfOk
+        result (λ r.
+        IsGreatest (S.goes side.now automaton.now) (S.goes side.now automaton.now)
+        (S.matches side.now automaton.now) look automaton.now.states automaton.now.states r.pairs) }
 {
     let mut rel = matching(alloc, side, automaton)?;
     let mut scratch = Scratch::new(alloc, automaton, look)?;

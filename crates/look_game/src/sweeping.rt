@@ -1,5 +1,5 @@
-//! A first search in which the rows come first that are far from the pair that is asked for: what is lost there is known when nearer rows are
-//! visited, so that pair is lost early if it is.
+//! A first search in which the rows come first that are far from the pair that is asked for: what
+//! is lost there is known when nearer rows are visited, so that pair is lost early if it is.
 
 ghost use Rattle.std.specs.Prelude.{◌≡◌, ◌+◌, ◌/◌, ◌^◌, ◌<◌, ◌≤◌, All, length, IfOk, IfSome};
 ghost use Rattle.auto_core.specs.Game.{Holds};
@@ -65,8 +65,8 @@ fn nearest_first<S: Side>(
     Ok(order)
 }
 
-/// The rows to sweep over, the nearer ones first: those reached from the left state of the pair that is asked for; none where none is asked
-/// for.
+/// The rows to sweep over, the nearer ones first: those reached from the left state of the pair
+/// that is asked for; none where none is asked for.
 pub fn rows_to_sweep<S: Side>(
     alloc: Global,
     side: &S,
@@ -74,7 +74,8 @@ pub fn rows_to_sweep<S: Side>(
     asked: Option<Pair>,
     marks: &mut [u64],
 ) -> Result<Vec<u32>, Memory>
-    requires asked_states { IfSome asked (λ pair. (pair.left < automaton.now.states) × (pair.right < automaton.now.states)) }
+    requires asked_states { IfSome
+        asked (λ pair. (pair.left < automaton.now.states) × (pair.right < automaton.now.states)) }
     requires len { length marks.old ≡ (automaton.now.states + 63) / 64 }
     ensures { IfOk result (λ order. All (λ q. q < automaton.now.states) order.items) }
 {
@@ -84,8 +85,8 @@ pub fn rows_to_sweep<S: Side>(
     }
 }
 
-/// Takes away pairs of these rows that do not have their round, each pair being tried once and the last row first, and tells whether there
-/// were any.
+/// Takes away pairs of these rows that do not have their round, each pair being tried once and the
+/// last row first, and tells whether there were any.
 fn sweep<S: Side>(
     side: &S,
     automaton: &Auto,
@@ -102,10 +103,13 @@ fn sweep<S: Side>(
     requires order { All (λ p. p < automaton.now.states) order.now }
     requires few { automaton.now.states < 2 ^ 32 }
     requires valid { IsRelation rel.old }
-    requires ready { IsRoomFor (S.goes side.now automaton.now) (S.matches side.now automaton.now) (Holds rel.old.pairs) automaton.now.states visits.old }
-    ensures takes { TakesAway (S.goes side.now automaton.now) (S.matches side.now automaton.now) look rel.old rel.new }
+    requires ready { IsRoomFor (S.goes side.now automaton.now) (S.matches side.now automaton.now)
+        (Holds rel.old.pairs) automaton.now.states visits.old }
+    ensures takes { TakesAway (S.goes side.now automaton.now) (S.matches side.now automaton.now)
+        look rel.old rel.new }
     ensures scratch { scratch.new ≡ scratch.old }
-    ensures ready { IsRoomFor (S.goes side.now automaton.now) (S.matches side.now automaton.now) (Holds rel.new.pairs) automaton.now.states visits.new }
+    ensures ready { IsRoomFor (S.goes side.now automaton.now) (S.matches side.now automaton.now)
+        (Holds rel.new.pairs) automaton.now.states visits.new }
 {
     let mut any = false;
     for i in (0..order.len()).rev() {
@@ -116,7 +120,8 @@ fn sweep<S: Side>(
     any
 }
 
-/// Sweeps over these rows until the pair that is asked for is lost, or no pair is taken away, or that was done often.
+/// Sweeps over these rows until the pair that is asked for is lost, or no pair is taken away, or
+/// that was done often.
 pub fn sweep_often<S: Side>(
     side: &S,
     automaton: &Auto,
@@ -129,15 +134,19 @@ pub fn sweep_often<S: Side>(
 )
     requires look_from { 1 ≤ look }
     requires look_upto { look ≤ 6 }
-    requires asked_states { IfSome asked (λ pair. (pair.left < automaton.now.states) × (pair.right < automaton.now.states)) }
+    requires asked_states { IfSome
+        asked (λ pair. (pair.left < automaton.now.states) × (pair.right < automaton.now.states)) }
     requires equal { rel.old.size ≡ automaton.now.states }
     requires made { scratch.old ≡ record { states = automaton.now.states; look = look } }
     requires order { All (λ p. p < automaton.now.states) order.now }
     requires few { automaton.now.states < 2 ^ 32 }
-    requires ready { IsRoomFor (S.goes side.now automaton.now) (S.matches side.now automaton.now) (Holds rel.old.pairs) automaton.now.states visits.old }
-    ensures takes { TakesAway (S.goes side.now automaton.now) (S.matches side.now automaton.now) look rel.old rel.new }
+    requires ready { IsRoomFor (S.goes side.now automaton.now) (S.matches side.now automaton.now)
+        (Holds rel.old.pairs) automaton.now.states visits.old }
+    ensures takes { TakesAway (S.goes side.now automaton.now) (S.matches side.now automaton.now)
+        look rel.old rel.new }
     ensures scratch { scratch.new ≡ scratch.old }
-    ensures ready { IsRoomFor (S.goes side.now automaton.now) (S.matches side.now automaton.now) (Holds rel.new.pairs) automaton.now.states visits.new }
+    ensures ready { IsRoomFor (S.goes side.now automaton.now) (S.matches side.now automaton.now)
+        (Holds rel.new.pairs) automaton.now.states visits.new }
 {
     for _time in 0..rel.size().min(MOST_SWEEPS) {
         if is_lost(rel, asked) {

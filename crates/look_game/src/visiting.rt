@@ -1,4 +1,5 @@
-//! A visit of one row of a relation: its pairs that do not have their round are found first, and then taken away.
+//! A visit of one row of a relation: its pairs that do not have their round are found first, and
+//! then taken away.
 
 ghost use Rattle.std.specs.Prelude.{◌≡◌, ◌+◌, ◌/◌, ◌^◌, ◌<◌, ◌≤◌, ℕ, true, false, length, IfOk};
 ghost use Rattle.auto_core.specs.Rows.{HasBit};
@@ -39,7 +40,9 @@ fn find_lost<S: Side>(
     requires look_upto { look ≤ 6 }
     requires equal { rel.now.size ≡ automaton.now.states }
     requires made { scratch.old ≡ record { states = automaton.now.states; look = look } }
-    requires answers { AreRowsOfAnswers (S.goes side.now automaton.now) (S.matches side.now automaton.now) (Holds rel.now.pairs) automaton.now.states answering.now }
+    requires answers { AreRowsOfAnswers (S.goes side.now automaton.now)
+        (S.matches side.now automaton.now) (Holds rel.now.pairs) automaton.now.states
+        answering.now }
     requires state { p < automaton.now.states }
     requires few { automaton.now.states < 2 ^ 32 }
     requires rest_len { length rest.now ≡ (automaton.now.states + 63) / 64 }
@@ -62,7 +65,8 @@ fn find_lost<S: Side>(
     }
 }
 
-/// Takes away the pairs of `p` with the states of the row, which it has, and tells whether there are any.
+/// Takes away the pairs of `p` with the states of the row, which it has, and tells whether there
+/// are any.
 fn take_lost(rel: &mut Rel, p: u32, lost: &[u64]) -> bool
     requires state { p < rel.old.size }
     requires few { rel.old.size < 2 ^ 32 }
@@ -93,7 +97,9 @@ impl Visits {
         rel: &Rel,
     ) -> Result<Visits, Memory>
         requires equal { rel.now.size ≡ automaton.now.states }
-        ensures { IfOk result (IsRoomFor (S.goes side.now automaton.now) (S.matches side.now automaton.now) (Holds rel.now.pairs) automaton.now.states) }
+        ensures { IfOk result
+            (IsRoomFor (S.goes side.now automaton.now) (S.matches side.now automaton.now)
+            (Holds rel.now.pairs) automaton.now.states) }
     {
         let width = rows::words_for(automaton.states());
         Ok(Visits {
@@ -104,7 +110,8 @@ impl Visits {
     }
 }
 
-/// Takes away the pairs of `p` that do not have their round, and tells whether there were any. The two rows are room.
+/// Takes away the pairs of `p` that do not have their round, and tells whether there were any. The
+/// two rows are room.
 fn try_row<S: Side>(
     side: &S,
     automaton: &Auto,
@@ -123,17 +130,24 @@ fn try_row<S: Side>(
     requires state { p < automaton.now.states }
     requires few { automaton.now.states < 2 ^ 32 }
     requires valid { IsRelation rel.old }
-    requires answers { AreRowsOfAnswers (S.goes side.now automaton.now) (S.matches side.now automaton.now) (Holds rel.old.pairs) automaton.now.states answering.old }
+    requires answers { AreRowsOfAnswers (S.goes side.now automaton.now)
+        (S.matches side.now automaton.now) (Holds rel.old.pairs) automaton.now.states
+        answering.old }
     requires rest { length rest.old ≡ (automaton.now.states + 63) / 64 }
     requires lost { length lost.old ≡ (automaton.now.states + 63) / 64 }
-    ensures takes { TakesAway (S.goes side.now automaton.now) (S.matches side.now automaton.now) look rel.old rel.new }
+    ensures takes { TakesAway (S.goes side.now automaton.now) (S.matches side.now automaton.now)
+        look rel.old rel.new }
     ensures some { result ≡ true → TakesSome rel.old rel.new }
     ensures same { result ≡ false → rel.new ≡ rel.old }
-    ensures rounds { result ≡ false → HasRounds (S.goes side.now automaton.now) (S.matches side.now automaton.now) look rel.new p }
+    ensures rounds { result ≡ false
+        → HasRounds (S.goes side.now automaton.now) (S.matches side.now automaton.now) look rel.new
+        p }
     ensures others { KeepsOthers p rel.old rel.new }
     ensures apart { (IsReachedWithin (S.goes side.now automaton.now) look p p → ⊥)
         → HasRounds (S.goes side.now automaton.now) (S.matches side.now automaton.now) look rel.new p }
-    ensures answers { AreRowsOfAnswers (S.goes side.now automaton.now) (S.matches side.now automaton.now) (Holds rel.new.pairs) automaton.now.states answering.new }
+    ensures answers { AreRowsOfAnswers (S.goes side.now automaton.now)
+        (S.matches side.now automaton.now) (Holds rel.new.pairs) automaton.now.states
+        answering.new }
     ensures scratch { scratch.new ≡ scratch.old }
 {
     answering.unanswered(side, automaton, rel, p, rest);
@@ -162,16 +176,21 @@ pub fn visit_row<S: Side>(
     requires state { p < automaton.now.states }
     requires few { automaton.now.states < 2 ^ 32 }
     requires valid { IsRelation rel.old }
-    requires ready { IsRoomFor (S.goes side.now automaton.now) (S.matches side.now automaton.now) (Holds rel.old.pairs) automaton.now.states visits.old }
-    ensures takes { TakesAway (S.goes side.now automaton.now) (S.matches side.now automaton.now) look rel.old rel.new }
+    requires ready { IsRoomFor (S.goes side.now automaton.now) (S.matches side.now automaton.now)
+        (Holds rel.old.pairs) automaton.now.states visits.old }
+    ensures takes { TakesAway (S.goes side.now automaton.now) (S.matches side.now automaton.now)
+        look rel.old rel.new }
     ensures some { result ≡ true → TakesSome rel.old rel.new }
     ensures same { result ≡ false → rel.new ≡ rel.old }
-    ensures rounds { result ≡ false → HasRounds (S.goes side.now automaton.now) (S.matches side.now automaton.now) look rel.new p }
+    ensures rounds { result ≡ false
+        → HasRounds (S.goes side.now automaton.now) (S.matches side.now automaton.now) look rel.new
+        p }
     ensures others { KeepsOthers p rel.old rel.new }
     ensures apart { (IsReachedWithin (S.goes side.now automaton.now) look p p → ⊥)
         → HasRounds (S.goes side.now automaton.now) (S.matches side.now automaton.now) look rel.new p }
     ensures scratch { scratch.new ≡ scratch.old }
-    ensures ready { IsRoomFor (S.goes side.now automaton.now) (S.matches side.now automaton.now) (Holds rel.new.pairs) automaton.now.states visits.new }
+    ensures ready { IsRoomFor (S.goes side.now automaton.now) (S.matches side.now automaton.now)
+        (Holds rel.new.pairs) automaton.now.states visits.new }
 {
     try_row(
         side,

@@ -7,9 +7,11 @@ IsListedWithin listed at end q = (i : ℕ) × (at ≤ i) × (i < end) × (slice_
 
 -- The places before `end` are the same in both.
 abbrev pub KeepsListed : List ℕ → List ℕ → ℕ → Type 0
-KeepsListed old new end = (length new ≡ length old) × ((i : ℕ) → i < end → slice_index new i ≡ slice_index old i)
+KeepsListed old new end =
+    (length new ≡ length old) × ((i : ℕ) → i < end → slice_index new i ≡ slice_index old i)
 
--- From place `from` on states below n were written, up to place `to`, and no place before. They are just those with P, if there is room for more.
+-- From place `from` on states below n were written, up to place `to`, and no place before. They are
+-- just those with P, if there is room for more.
 pub record Lists (old new : List ℕ) (from to n : ℕ) (P : ℕ → Type 0) : Type 0 where
   pub upward : from ≤ to
   pub inside : to ≤ length new

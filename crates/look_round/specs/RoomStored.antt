@@ -8,7 +8,8 @@ use Rattle.look_round.specs.declared.scratch.TheConstants.{MOST_LISTED}
 abbrev pub room_of : Inside → Room
 room_of s = record { states = s.states; look = s.look }
 
--- Six moves fit into the path, and there is a row for each place of the path and for its start, and as many for what a round remembers. Some states can be listed.
+-- Six moves fit into the path, and there is a row for each place of the path and for its start, and
+-- as many for what a round remembers. Some states can be listed.
 pub record IsRoomStored (s : Inside) : Type 0 where
   pub path : s.path.capacity ≡ 6
   pub sets : length s.sets.items ≡ (s.look + 1) * ((s.states + 63) / 64)

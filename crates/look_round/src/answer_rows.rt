@@ -1,5 +1,5 @@
-//! Rows of the states that answer a move at once are made from a relation and read. A state's row stays right until the relation loses a pair of
-//! that state.
+//! Rows of the states that answer a move at once are made from a relation and read. A state's row
+//! stays right until the relation loses a pair of that state.
 
 ghost use Rattle.std.specs.Prelude.{◌≡◌, ◌+◌, ◌*◌, ◌/◌, ◌^◌, ◌<◌, ◌≤◌, ◌↔◌, ◌⊎◌, ℕ, length, vec_len, Contains, IsTrue, IfOk};
 ghost use Rattle.auto_core.specs.Rows.{cell_of, HasCell, HasBit};
@@ -47,7 +47,8 @@ fn mark_arrivals<S: Side>(
     ensures here { (a q : ℕ) → a < labels → q < width * 64
         → HasCell table.new (labels * width) t (a * width * 64 + q)
         ↔ (HasCell table.old (labels * width) t (a * width * 64 + q) ⊎ S.goes side.now automaton.now q a r) }
-    ensures others { (s c : ℕ) → c < labels * width * 64 → ¬ (s ≡ t) → cell_of table.new (labels * width) s c ≡ cell_of table.old (labels * width) s c }
+    ensures others { (s c : ℕ) → c < labels * width * 64 → ¬ (s ≡ t)
+        → cell_of table.new (labels * width) s c ≡ cell_of table.old (labels * width) s c }
 {
     for at in 0..side.arrivals(automaton, r) {
         let m = side.nth_arrival(automaton, r, at);
@@ -58,7 +59,8 @@ fn mark_arrivals<S: Side>(
     }
 }
 
-/// Writes into row `t` of the table, for each letter, the states that answer a move by it to `t` at once.
+/// Writes into row `t` of the table, for each letter, the states that answer a move by it to `t` at
+/// once.
 fn write_answers<S: Side>(
     side: &S,
     automaton: &Auto,
@@ -77,7 +79,8 @@ fn write_answers<S: Side>(
     ensures here { (a q : ℕ) → a < labels → q < width * 64
         → HasCell table.new (labels * width) t (a * width * 64 + q)
         ↔ IsAnsweredAtOnce (S.goes side.now automaton.now) (S.matches side.now automaton.now) (Holds rel.now.pairs) a t q }
-    ensures others { (s c : ℕ) → c < labels * width * 64 → ¬ (s ≡ t) → cell_of table.new (labels * width) s c ≡ cell_of table.old (labels * width) s c }
+    ensures others { (s c : ℕ) → c < labels * width * 64 → ¬ (s ≡ t)
+        → cell_of table.new (labels * width) s c ≡ cell_of table.old (labels * width) s c }
 {
     clear_table_row(table, labels as usize * width, t as usize);
     let mut at = 0;
@@ -89,7 +92,8 @@ fn write_answers<S: Side>(
     }
 }
 
-/// Clears in row `t` of the table, for each letter, the states from which a move by it leads to `r` and that do not answer the move to `t` at once.
+/// Clears in row `t` of the table, for each letter, the states from which a move by it leads to `r`
+/// and that do not answer the move to `t` at once.
 fn clear_arrivals<S: Side>(
     side: &S,
     automaton: &Auto,
@@ -102,7 +106,8 @@ fn clear_arrivals<S: Side>(
     width: usize,
 )
     requires equal { rel.now.size ≡ automaton.now.states }
-    requires lists { AreReplyLists (S.goes side.now automaton.now) (S.matches side.now automaton.now) automaton.now.states lists.now }
+    requires lists { AreReplyLists (S.goes side.now automaton.now)
+        (S.matches side.now automaton.now) automaton.now.states lists.now }
     requires left { t < automaton.now.states }
     requires right { r < automaton.now.states }
     requires width { width ≡ (automaton.now.states + 63) / 64 }
@@ -112,7 +117,8 @@ fn clear_arrivals<S: Side>(
         → HasCell table.new (labels * width) t (a * width * 64 + q)
         ↔ (HasCell table.old (labels * width) t (a * width * 64 + q)
         × (S.goes side.now automaton.now q a r → IsAnsweredAtOnce (S.goes side.now automaton.now) (S.matches side.now automaton.now) (Holds rel.now.pairs) a t q)) }
-    ensures others { (s c : ℕ) → c < labels * width * 64 → ¬ (s ≡ t) → cell_of table.new (labels * width) s c ≡ cell_of table.old (labels * width) s c }
+    ensures others { (s c : ℕ) → c < labels * width * 64 → ¬ (s ≡ t)
+        → cell_of table.new (labels * width) s c ≡ cell_of table.old (labels * width) s c }
 {
     for at in 0..side.arrivals(automaton, r) {
         let m = side.nth_arrival(automaton, r, at);
@@ -127,7 +133,8 @@ fn clear_arrivals<S: Side>(
     }
 }
 
-/// Makes row `t` of the table right, which was so before `t` lost its pairs with those of the row `lost`.
+/// Makes row `t` of the table right, which was so before `t` lost its pairs with those of the row
+/// `lost`.
 fn forget_lost<S: Side>(
     side: &S,
     automaton: &Auto,
@@ -140,7 +147,8 @@ fn forget_lost<S: Side>(
     width: usize,
 )
     requires equal { rel.now.size ≡ automaton.now.states }
-    requires lists { AreReplyLists (S.goes side.now automaton.now) (S.matches side.now automaton.now) automaton.now.states lists.now }
+    requires lists { AreReplyLists (S.goes side.now automaton.now)
+        (S.matches side.now automaton.now) automaton.now.states lists.now }
     requires state { t < automaton.now.states }
     requires states { automaton.now.states < 2 ^ 32 }
     requires width { width ≡ (automaton.now.states + 63) / 64 }
@@ -154,7 +162,8 @@ fn forget_lost<S: Side>(
     ensures here { (a q : ℕ) → a < labels → q < width * 64
         → HasCell table.new (labels * width) t (a * width * 64 + q)
         ↔ IsAnsweredAtOnce (S.goes side.now automaton.now) (S.matches side.now automaton.now) (Holds rel.now.pairs) a t q }
-    ensures others { (s c : ℕ) → c < labels * width * 64 → ¬ (s ≡ t) → cell_of table.new (labels * width) s c ≡ cell_of table.old (labels * width) s c }
+    ensures others { (s c : ℕ) → c < labels * width * 64 → ¬ (s ≡ t)
+        → cell_of table.new (labels * width) s c ≡ cell_of table.old (labels * width) s c }
 {
     let mut at = 0;
     while let Some(r) = next_bit(lost, at) {
@@ -242,7 +251,9 @@ impl Answering {
         rel: &Rel,
     ) -> Result<Answering, Memory>
         requires equal { rel.now.size ≡ automaton.now.states }
-        ensures { IfOk result (AreRowsOfAnswers (S.goes side.now automaton.now) (S.matches side.now automaton.now) (Holds rel.now.pairs) automaton.now.states) }
+        ensures { IfOk result
+            (AreRowsOfAnswers (S.goes side.now automaton.now) (S.matches side.now automaton.now)
+            (Holds rel.now.pairs) automaton.now.states) }
     {
         let count = automaton.states();
         let width = rows::words_for(count);
@@ -321,13 +332,15 @@ impl Answering {
         false
     }
 
-    /// Makes the row of the state right, if it has one and it was so before the state lost its pairs with those of the row `lost`.
+    /// Makes the row of the state right, if it has one and it was so before the state lost its
+    /// pairs with those of the row `lost`.
     pub fn forget<S: Side>(&mut self, side: &S, automaton: &Auto, rel: &Rel, t: u32, lost: &[u64])
         requires state { t < automaton.now.states }
         requires states { automaton.now.states < 2 ^ 32 }
         requires equal { rel.now.size ≡ automaton.now.states }
         requires width { self.old.width ≡ (automaton.now.states + 63) / 64 }
-        requires lists { AreReplyLists (S.goes side.now automaton.now) (S.matches side.now automaton.now) automaton.now.states self.old.lists }
+        requires lists { AreReplyLists (S.goes side.now automaton.now)
+            (S.matches side.now automaton.now) automaton.now.states self.old.lists }
         requires lost { length lost.now ≡ (automaton.now.states + 63) / 64 }
         requires below { (r : ℕ) → HasBit lost.now r → r < automaton.now.states }
         requires before { t < self.old.kept
@@ -366,7 +379,8 @@ impl Answering {
         step: Move,
         row: &mut [u64],
     )
-        requires answers { AreRowsOfAnswers (S.goes side.now automaton.now) (S.matches side.now automaton.now) (Holds rel.now.pairs) automaton.now.states self.now }
+        requires answers { AreRowsOfAnswers (S.goes side.now automaton.now)
+            (S.matches side.now automaton.now) (Holds rel.now.pairs) automaton.now.states self.now }
         requires row { length row.old ≡ self.now.width }
         ensures { (q : ℕ) → q < self.now.width * 64
             → HasBit row.new q
@@ -379,7 +393,8 @@ impl Answering {
         }
     }
 
-    /// Writes into `rest` the states that `p` is related to and that do not answer each of its moves at once, as far as is known.
+    /// Writes into `rest` the states that `p` is related to and that do not answer each of its
+    /// moves at once, as far as is known.
     pub fn unanswered<S: Side>(
         &self,
         side: &S,
@@ -390,7 +405,8 @@ impl Answering {
     )
         requires state { p < automaton.now.states }
         requires equal { rel.now.size ≡ automaton.now.states }
-        requires answers { AreRowsOfAnswers (S.goes side.now automaton.now) (S.matches side.now automaton.now) (Holds rel.now.pairs) automaton.now.states self.now }
+        requires answers { AreRowsOfAnswers (S.goes side.now automaton.now)
+            (S.matches side.now automaton.now) (Holds rel.now.pairs) automaton.now.states self.now }
         requires rest { length rest.old ≡ (automaton.now.states + 63) / 64 }
         ensures related { (q : ℕ) → HasBit rest.new q → Holds rel.now.pairs p q }
         ensures answered { (q : ℕ) → Holds rel.now.pairs p q → (HasBit rest.new q → ⊥)

@@ -1,11 +1,13 @@
-//! Which states answer a move at once, by a state that the relation relates the move's target to, as rows of bits.
+//! Which states answer a move at once, by a state that the relation relates the move's target to,
+//! as rows of bits.
 
 ghost use Rattle.std.specs.Prelude.{◌≡◌, ◌*◌, ◌^◌, ◌<◌, vec_len};
 
 use crate::reply_lists::ReplyLists;
 
-/// A row for each of the first `kept` states, which has for each letter `width` words: the states that answer a move by the letter to the
-/// row's state at once. Besides, the lists of the replies of each state.
+/// A row for each of the first `kept` states, which has for each letter `width` words: the states
+/// that answer a move by the letter to the row's state at once. Besides, the lists of the replies
+/// of each state.
 #[derive(Drop)]
 pub struct Answering {
     pub(crate) labels: u32,

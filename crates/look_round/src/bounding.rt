@@ -1,4 +1,5 @@
-//! A bound on the greatest relation, by short words: the right state of a stable pair has each word that the left one has.
+//! A bound on the greatest relation, by short words: the right state of a stable pair has each word
+//! that the left one has.
 
 ghost use Rattle.std.specs.Prelude.{◌≡◌, ◌+◌, ◌*◌, ◌/◌, ◌^◌, ◌<◌, ◌≤◌, ◌↔◌, ◌⊎◌, ℕ, true, length, IfOk};
 ghost use Rattle.auto_core.specs.Rows.{cell_of, HasBit, HasCell};
@@ -30,16 +31,19 @@ const FIRST_WORDS: usize = 64;
 /// Rows have many states left if they have so many.
 const MANY_LEFT: usize = 16;
 
-/// Takes from row p what the column has not, if the column has p, and tells, where that is asked, whether the row is left with its own
-/// place alone by that.
+/// Takes from row p what the column has not, if the column has p, and tells, where that is asked,
+/// whether the row is left with its own place alone by that.
 fn narrow_by(table: &mut [u64], width: usize, p: usize, column: &[u64], is_asked: bool) -> bool
     requires row { p * width + width ≤ length table.old }
     requires column { length column.now ≡ width }
     requires own { p / 64 < width }
     requires few { width < 2 ^ 32 }
     ensures alone { result ≡ true → (q : ℕ) → q < width * 64 → HasCell table.new width p q → q ≡ p }
-    ensures here { (q : ℕ) → q < width * 64 → HasCell table.new width p q ↔ (HasCell table.old width p q × (HasBit column.now p → HasBit column.now q)) }
-    ensures others { (r q : ℕ) → q < width * 64 → ¬ (r ≡ p) → cell_of table.new width r q ≡ cell_of table.old width r q }
+    ensures here { (q : ℕ) → q < width * 64
+        → HasCell table.new width p q
+        ↔ (HasCell table.old width p q × (HasBit column.now p → HasBit column.now q)) }
+    ensures others { (r q : ℕ) → q < width * 64 → ¬ (r ≡ p)
+        → cell_of table.new width r q ≡ cell_of table.old width r q }
 {
     if !rows::has_bit(column, p) {
         return false;
@@ -51,14 +55,16 @@ fn narrow_by(table: &mut [u64], width: usize, p: usize, column: &[u64], is_asked
     has_no_other(rows::row_at(table, width, p), p)
 }
 
-/// Takes from row p what a column has not that has p. A row that is left with its own state alone has each column that it needs.
+/// Takes from row p what a column has not that has p. A row that is left with its own state alone
+/// has each column that it needs.
 fn narrow_row(table: &mut [u64], width: usize, p: usize, columns: &[u64], used: usize)
     requires row { p * width + width ≤ length table.old }
     requires own { p / 64 < width }
     requires few { width < 2 ^ 32 }
     requires columns { used * width ≤ length columns.now }
     ensures here { IsRowNarrowed table.old table.new width columns.now p used }
-    ensures others { (r q : ℕ) → q < width * 64 → ¬ (r ≡ p) → cell_of table.new width r q ≡ cell_of table.old width r q }
+    ensures others { (r q : ℕ) → q < width * 64 → ¬ (r ≡ p)
+        → cell_of table.new width r q ≡ cell_of table.old width r q }
 {
     for i in 0..used {
         let is_asked = i % WORDS_BETWEEN == 0;
@@ -90,8 +96,8 @@ fn has_few_left(table: &[u64], count: u32) -> bool {
     left / MANY_LEFT < count as usize
 }
 
-/// Takes from each row what a column has not that has the row's own state: by the first columns; by the others where few states are left;
-/// and else by comparing the columns that states have.
+/// Takes from each row what a column has not that has the row's own state: by the first columns; by
+/// the others where few states are left; and else by comparing the columns that states have.
 fn narrow(
     alloc: Global,
     table: &mut [u64],
@@ -101,12 +107,15 @@ fn narrow(
     used: usize,
 ) -> Result<(), Memory>
     requires table { length table.old ≡ count * width }
-    requires states { (p q : ℕ) → p < count → q < width * 64 → HasCell table.old width p q → q < count }
+    requires states { (p q : ℕ) → p < count → q < width * 64 → HasCell table.old width p q
+        → q < count }
     requires room { count ≤ width * 64 }
     requires few { width < 2 ^ 32 }
     requires some { used < 2 ^ 32 }
     requires columns { used * width ≤ length columns.now }
-    ensures { IfOk result (λ _. (p : ℕ) → p < count → IsRowNarrowed table.old table.new width columns.now p used) }
+    ensures { IfOk
+        result (λ _.
+        (p : ℕ) → p < count → IsRowNarrowed table.old table.new width columns.now p used) }
 {
     narrow_each(table, count, width, columns, used.min(FIRST_WORDS));
     if has_few_left(table, count) {
@@ -125,7 +134,8 @@ fn add_row(rel: &mut Rel, p: u32, row: &[u64])
     requires valid { IsRelation rel.old }
     ensures size { rel.new.size ≡ rel.old.size }
     ensures valid { IsRelation rel.new }
-    ensures pairs { (r s : ℕ) → Holds rel.new.pairs r s ↔ (Holds rel.old.pairs r s ⊎ ((r ≡ p) × HasBit row.now s)) }
+    ensures pairs { (r s : ℕ)
+        → Holds rel.new.pairs r s ↔ (Holds rel.old.pairs r s ⊎ ((r ≡ p) × HasBit row.now s)) }
 {
     let mut at = 0;
     while let Some(q) = next_bit(row, at) {
@@ -138,7 +148,8 @@ fn add_row(rel: &mut Rel, p: u32, row: &[u64])
 fn relation_of(alloc: Global, table: &[u64], count: u32, width: usize) -> Result<Rel, Memory>
     requires width { width ≡ (count + 63) / 64 }
     requires table { length table.now ≡ count * width }
-    requires columns { (p q : ℕ) → p < count → q < width * 64 → HasCell table.now width p q → q < count }
+    requires columns { (p q : ℕ) → p < count → q < width * 64 → HasCell table.now width p q
+        → q < count }
     ensures { IfOk result (HoldsTable table.now count width) }
 {
     let mut rel = Rel::empty(alloc, count)?;
@@ -148,8 +159,8 @@ fn relation_of(alloc: Global, table: &[u64], count: u32, width: usize) -> Result
     Ok(rel)
 }
 
-/// The bound, where `table` is room for a row for each state, `columns` for so many words, `ends` for one row, `places` and `found` for a word
-/// for each state, and `made` for 64 rows.
+/// The bound, where `table` is room for a row for each state, `columns` for so many words, `ends`
+/// for one row, `places` and `found` for a word for each state, and `made` for 64 rows.
 fn bound_in<S: Side>(
     alloc: Global,
     side: &S,
@@ -173,7 +184,9 @@ fn bound_in<S: Side>(
     requires places { length places.old ≡ automaton.now.states }
     requires found { length found.old ≡ automaton.now.states }
     requires made { length made.old ≡ 64 * width }
-    ensures { IfOk result (IsBound (S.goes side.now automaton.now) (S.matches side.now automaton.now) automaton.now.states) }
+    ensures { IfOk result
+        (IsBound (S.goes side.now automaton.now) (S.matches side.now automaton.now)
+        automaton.now.states) }
 {
     let count = automaton.states();
     let kinds = match_rows(alloc, side, automaton, table, ends, width)?;
@@ -184,10 +197,12 @@ fn bound_in<S: Side>(
     relation_of(alloc, table, count, width)
 }
 
-/// A relation of pairs that match which has inside each list that is stable at some lookahead: the pairs whose right state has each of
-/// some short words that the left state has.
+/// A relation of pairs that match which has inside each list that is stable at some lookahead: the
+/// pairs whose right state has each of some short words that the left state has.
 pub fn bound<S: Side>(alloc: Global, side: &S, automaton: &Auto) -> Result<Rel, Memory>
-    ensures { IfOk result (IsBound (S.goes side.now automaton.now) (S.matches side.now automaton.now) automaton.now.states) }
+    ensures { IfOk result
+        (IsBound (S.goes side.now automaton.now) (S.matches side.now automaton.now)
+        automaton.now.states) }
 {
     let count = automaton.states();
     let width = rows::words_for(count);

@@ -1,4 +1,5 @@
-//! Rows narrowed by comparing states: the columns of words that one has with those that another has.
+//! Rows narrowed by comparing states: the columns of words that one has with those that another
+//! has.
 
 ghost use Rattle.std.specs.Prelude.{◌≡◌, ◌+◌, ◌*◌, ◌/◌, ◌^◌, ◌<◌, ◌≤◌, ◌↔◌, ℕ, false, length, IfOk};
 ghost use Rattle.auto_core.specs.Rows.{bit_of, cell_of, HasBit, HasCell};
@@ -14,8 +15,10 @@ fn keep_if_within(table: &mut [u64], width: usize, p: usize, q: usize, own: &[u6
     requires row { p * width + width ≤ length table.old }
     requires state { q < width * 64 }
     requires equal { length own.now ≡ length other.now }
-    ensures here { HasCell table.new width p q ↔ (HasCell table.old width p q × ((k : ℕ) → HasBit own.now k → HasBit other.now k)) }
-    ensures others { (r s : ℕ) → s < width * 64 → ¬ ((r ≡ p) × (s ≡ q)) → cell_of table.new width r s ≡ cell_of table.old width r s }
+    ensures here { HasCell table.new width p q
+        ↔ (HasCell table.old width p q × ((k : ℕ) → HasBit own.now k → HasBit other.now k)) }
+    ensures others { (r s : ℕ) → s < width * 64 → ¬ ((r ≡ p) × (s ≡ q))
+        → cell_of table.new width r s ≡ cell_of table.old width r s }
 {
     if !subset(own, other) {
         rows::clear_cell(table, width, p, q);
@@ -41,7 +44,8 @@ fn keep_above(
     requires state { p < count }
     ensures here { (q : ℕ) → q < width * 64 → HasCell table.new width p q
         ↔ (HasCell table.old width p q × ((k : ℕ) → k < span * 64 → HasCell had.now span p k → HasCell had.now span q k)) }
-    ensures others { (r q : ℕ) → q < width * 64 → ¬ (r ≡ p) → cell_of table.new width r q ≡ cell_of table.old width r q }
+    ensures others { (r q : ℕ) → q < width * 64 → ¬ (r ≡ p)
+        → cell_of table.new width r q ≡ cell_of table.old width r q }
 {
     let own = rows::row_at(had, span, p);
     let mut at = 0;
@@ -51,7 +55,8 @@ fn keep_above(
     }
 }
 
-/// Takes from each row the states that have not each column that the row's own has. `row` is room for one row.
+/// Takes from each row the states that have not each column that the row's own has. `row` is room
+/// for one row.
 fn keep_each_above(
     table: &mut [u64],
     count: u32,
@@ -63,7 +68,8 @@ fn keep_each_above(
     row: &mut [u64],
 )
     requires table { length table.old ≡ count * width }
-    requires states { (p q : ℕ) → p < count → q < width * 64 → HasCell table.old width p q → q < count }
+    requires states { (p q : ℕ) → p < count → q < width * 64 → HasCell table.old width p q
+        → q < count }
     requires few { width < 2 ^ 32 }
     requires near { count ≤ width * 64 }
     requires len { length row.old ≡ width }
@@ -88,12 +94,15 @@ pub(crate) fn compare(
     used: usize,
 ) -> Result<(), Memory>
     requires table { length table.old ≡ count * width }
-    requires states { (p q : ℕ) → p < count → q < width * 64 → HasCell table.old width p q → q < count }
+    requires states { (p q : ℕ) → p < count → q < width * 64 → HasCell table.old width p q
+        → q < count }
     requires few { width < 2 ^ 32 }
     requires near { count ≤ width * 64 }
     requires some { used < 2 ^ 32 }
     requires columns { used * width ≤ length columns.now }
-    ensures { IfOk result (λ _. (p : ℕ) → p < count → IsRowNarrowed table.old table.new width columns.now p used) }
+    ensures { IfOk
+        result (λ _.
+        (p : ℕ) → p < count → IsRowNarrowed table.old table.new width columns.now p used) }
 {
     let span = used / 64 + 1;
     let mut had = vec![in alloc; 0; count as usize * span]?;

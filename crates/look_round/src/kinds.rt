@@ -1,4 +1,5 @@
-//! Which states match which, as rows of bits. Most states are like others: they ask for the same, and match the same.
+//! Which states match which, as rows of bits. Most states are like others: they ask for the same,
+//! and match the same.
 
 ghost use Rattle.std.specs.Prelude.{◌≡◌, ◌+◌, ◌*◌, ◌/◌, ◌<◌, ◌↔◌, ◌≤◌, ℕ, length, slice_index, All, IfOk, IfSome};
 ghost use Rattle.auto_core.specs.Rows.{HasBit, HasCell};
@@ -15,7 +16,8 @@ use std::alloc::Global;
 fn match_row<S: Side>(side: &S, automaton: &Auto, p: u32, row: &mut [u64])
     requires state { p < automaton.now.states }
     requires len { length row.old ≡ (automaton.now.states + 63) / 64 }
-    ensures { (q : ℕ) → HasBit row.new q ↔ ((q < automaton.now.states) × S.matches side.now automaton.now p q) }
+    ensures { (q : ℕ)
+        → HasBit row.new q ↔ ((q < automaton.now.states) × S.matches side.now automaton.now p q) }
 {
     rows::clear_row(row);
     for q in 0..automaton.states() {
@@ -25,11 +27,15 @@ fn match_row<S: Side>(side: &S, automaton: &Auto, p: u32, row: &mut [u64])
     }
 }
 
-/// The place among these states of one that matches `p` and is matched by it, so that the same states match both.
+/// The place among these states of one that matches `p` and is matched by it, so that the same
+/// states match both.
 pub(crate) fn find_kind<S: Side>(side: &S, automaton: &Auto, kinds: &[u32], p: u32) -> Option<usize>
     requires state { p < automaton.now.states }
     requires kinds { All (λ s. s < automaton.now.states) kinds.now }
-    ensures { IfSome result (λ i. (i < length kinds.now) × MatchEachOther (S.matches side.now automaton.now) p (slice_index kinds.now i)) }
+    ensures { IfSome
+        result (λ i.
+        (i < length kinds.now)
+        × MatchEachOther (S.matches side.now automaton.now) p (slice_index kinds.now i)) }
 {
     for i in 0..kinds.len() {
         if side.matched(automaton, p, kinds[i]) && side.matched(automaton, kinds[i], p) {
@@ -39,7 +45,8 @@ pub(crate) fn find_kind<S: Side>(side: &S, automaton: &Auto, kinds: &[u32], p: u
     None
 }
 
-/// Writes into `row` the states that match `p`, where the rows before `p` are written, and tells whether none of the kinds is its.
+/// Writes into `row` the states that match `p`, where the rows before `p` are written, and tells
+/// whether none of the kinds is its.
 fn write_matches<S: Side>(
     side: &S,
     automaton: &Auto,
@@ -54,8 +61,10 @@ fn write_matches<S: Side>(
     requires width { width ≡ (automaton.now.states + 63) / 64 }
     requires table { length table.now ≡ automaton.now.states * width }
     requires row { length row.old ≡ width }
-    requires before { AreMatches (S.matches side.now automaton.now) automaton.now.states table.now width p }
-    ensures { (q : ℕ) → q < width * 64 → HasBit row.new q ↔ ((q < automaton.now.states) × S.matches side.now automaton.now p q) }
+    requires before { AreMatches (S.matches side.now automaton.now) automaton.now.states table.now
+        width p }
+    ensures { (q : ℕ) → q < width * 64
+        → HasBit row.new q ↔ ((q < automaton.now.states) × S.matches side.now automaton.now p q) }
 {
     match find_kind(side, automaton, kinds, p) {
         Some(i) => {
@@ -69,8 +78,8 @@ fn write_matches<S: Side>(
     }
 }
 
-/// Writes into each row of the table the states that match the row's own, and gives a state of each kind, as far as kinds are told
-/// apart. `row` is room for one row.
+/// Writes into each row of the table the states that match the row's own, and gives a state of each
+/// kind, as far as kinds are told apart. `row` is room for one row.
 pub(crate) fn match_rows<S: Side>(
     alloc: Global,
     side: &S,
@@ -82,7 +91,10 @@ pub(crate) fn match_rows<S: Side>(
     requires width { width ≡ (automaton.now.states + 63) / 64 }
     requires table { length table.old ≡ automaton.now.states * width }
     requires row { length row.old ≡ width }
-    ensures matches { IfOk result (λ _. AreMatches (S.matches side.now automaton.now) automaton.now.states table.new width automaton.now.states) }
+    ensures matches { IfOk
+        result (λ _.
+        AreMatches (S.matches side.now automaton.now) automaton.now.states table.new width
+        automaton.now.states) }
     ensures kinds { IfOk result (λ v. All (λ s. s < automaton.now.states) v.items) }
 {
     let mut kinds = Vec::new(alloc);
@@ -125,7 +137,9 @@ pub(crate) fn number_kinds<S: Side>(
     kinds: &[u32],
 ) -> Result<Vec<usize>, Memory>
     requires kinds { All (λ s. s < automaton.now.states) kinds.now }
-    ensures { IfOk result (λ v. AreKinds (S.matches side.now automaton.now) automaton.now.states kinds.now v.items) }
+    ensures { IfOk
+        result (λ v.
+        AreKinds (S.matches side.now automaton.now) automaton.now.states kinds.now v.items) }
 {
     let mut numbers = Vec::new(alloc);
     for p in 0..automaton.states() {

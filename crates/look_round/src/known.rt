@@ -1,6 +1,7 @@
-//! Moves of Spoiler that one round has found answered, so that they need not be followed again. Row `left` of two tables is for the moves
-//! after which Spoiler has this many moves less one: `held` has the states where Duplicator may be, and `known` the states that such moves
-//! by one letter lead to.
+//! Moves of Spoiler that one round has found answered, so that they need not be followed again. Row
+//! `left` of two tables is for the moves after which Spoiler has this many moves less one: `held`
+//! has the states where Duplicator may be, and `known` the states that such moves by one letter
+//! lead to.
 
 ghost use Rattle.std.specs.Prelude.{◌≡◌, ◌+◌, ◌*◌, ◌<◌, ◌≤◌, ℕ, true, length, slice_index};
 ghost use Rattle.auto_core.specs.Rows.{bit_of, cell_of};
@@ -22,7 +23,8 @@ fn is_held(letters: &[u32], held: &[u64], width: usize, left: u32, label: u32, r
     are_equal(rows::row_at(held, width, left as usize), row)
 }
 
-/// Tells whether the move, where so many are left, is known to be answered from the states of the row.
+/// Tells whether the move, where so many are left, is known to be answered from the states of the
+/// row.
 pub fn is_known(
     letters: &[u32],
     held: &[u64],
@@ -36,7 +38,8 @@ pub fn is_known(
     requires held { left * width + width ≤ length held.now }
     requires known { left * width + width ≤ length known.now }
     requires to { step.to < width * 64 }
-    ensures { result ≡ true → IsMoveKnown letters.now held.now known.now width left step.label step.to row.now }
+    ensures { result ≡ true
+        → IsMoveKnown letters.now held.now known.now width left step.label step.to row.now }
 {
     if !rows::has_cell(known, width, left as usize, step.to as usize) {
         return false;
@@ -58,7 +61,8 @@ fn start_row(
     requires held { left * width + width ≤ length held.old }
     requires known { left * width + width ≤ length known.old }
     requires row { length row.now ≡ width }
-    ensures { Starts letters.old held.old known.old letters.new held.new known.new width left label row.now }
+    ensures { Starts letters.old held.old known.old letters.new held.new known.new width left label
+        row.now }
 {
     if is_held(letters, held, width, left, label, row) {
         return;
@@ -83,7 +87,8 @@ pub fn note(
     requires known { left * width + width ≤ length known.old }
     requires to { step.to < width * 64 }
     requires row { length row.now ≡ width }
-    ensures { Notes letters.old held.old known.old letters.new held.new known.new width left step.label step.to row.now }
+    ensures { Notes letters.old held.old known.old letters.new held.new known.new width left
+        step.label step.to row.now }
 {
     start_row(letters, held, known, width, left, step.label, row);
     rows::set_cell(known, width, left as usize, step.to as usize);

@@ -1,4 +1,5 @@
-//! Rounds where Duplicator may be in few states at a time: a list of them is quicker than a row of bits.
+//! Rounds where Duplicator may be in few states at a time: a list of them is quicker than a row of
+//! bits.
 
 ghost use Rattle.std.specs.Prelude.{◌≡◌, ◌<◌, ◌≤◌, ◌↔◌, ℕ, length, All, Contains, IsTrue};
 ghost use Rattle.auto_core.specs.Automaton.{IsAutomaton};
@@ -56,7 +57,9 @@ fn one_meets<S: Side>(
     from: &[u32],
 ) -> bool
     requires equal { rel.now.size ≡ automaton.now.states }
-    requires answers { AreRowsOfAnswers (S.goes side.now automaton.now) (S.matches side.now automaton.now) (Holds rel.now.pairs) automaton.now.states answering.now }
+    requires answers { AreRowsOfAnswers (S.goes side.now automaton.now)
+        (S.matches side.now automaton.now) (Holds rel.now.pairs) automaton.now.states
+        answering.now }
     requires step { step.to < automaton.now.states }
     requires from { All (λ q. q < automaton.now.states) from.now }
     ensures { IsTrue result
@@ -68,7 +71,8 @@ fn one_meets<S: Side>(
     one_answers(side, automaton, rel, step, from)
 }
 
-/// Writes the states of the list from place `from` on, as far as there is room, and tells the place after the last one.
+/// Writes the states of the list from place `from` on, as far as there is room, and tells the place
+/// after the last one.
 fn write_list(list: &[u32], listed: &mut [u32], from: usize, n: u32) -> usize
     requires from { from ≤ length listed.old }
     requires below { All (λ r. r < n) list.now }
@@ -84,7 +88,8 @@ fn write_list(list: &[u32], listed: &mut [u32], from: usize, n: u32) -> usize
     end
 }
 
-/// Writes the states by which `q` answers the step from place `from` on, as far as there is room, and tells the place after the last one.
+/// Writes the states by which `q` answers the step from place `from` on, as far as there is room,
+/// and tells the place after the last one.
 fn write_replies<S: Side>(
     side: &S,
     automaton: &Auto,
@@ -96,7 +101,9 @@ fn write_replies<S: Side>(
     requires state { q < automaton.now.states }
     requires step { step.to < automaton.now.states }
     requires from { from ≤ length listed.old }
-    ensures { Lists listed.old listed.new from result automaton.now.states (IsReply (S.goes side.now automaton.now) (S.matches side.now automaton.now) step.label step.to q) }
+    ensures { Lists listed.old listed.new from result automaton.now.states
+        (IsReply (S.goes side.now automaton.now) (S.matches side.now automaton.now) step.label
+        step.to q) }
 {
     let mut end = from;
     for at in 0..side.moves(automaton, q) {
@@ -119,11 +126,14 @@ fn copy_replies<S: Side>(
     listed: &mut [u32],
     from: usize,
 ) -> usize
-    requires lists { AreReplyLists (S.goes side.now automaton.now) (S.matches side.now automaton.now) automaton.now.states lists.now }
+    requires lists { AreReplyLists (S.goes side.now automaton.now)
+        (S.matches side.now automaton.now) automaton.now.states lists.now }
     requires state { q < automaton.now.states }
     requires step { step.to < automaton.now.states }
     requires from { from ≤ length listed.old }
-    ensures { Lists listed.old listed.new from result automaton.now.states (IsReply (S.goes side.now automaton.now) (S.matches side.now automaton.now) step.label step.to q) }
+    ensures { Lists listed.old listed.new from result automaton.now.states
+        (IsReply (S.goes side.now automaton.now) (S.matches side.now automaton.now) step.label
+        step.to q) }
 {
     if lists.has(step) {
         return write_list(lists.list(q, step), listed, from, automaton.states());
@@ -131,8 +141,8 @@ fn copy_replies<S: Side>(
     write_replies(side, automaton, q, step, listed, from)
 }
 
-/// Writes from place `end` on the states by which one of those at the places from `at` on answers the step, as far as there is room, and
-/// tells the place after the last one.
+/// Writes from place `end` on the states by which one of those at the places from `at` on answers
+/// the step, as far as there is room, and tells the place after the last one.
 fn list_replies<S: Side>(
     side: &S,
     automaton: &Auto,
@@ -142,7 +152,8 @@ fn list_replies<S: Side>(
     at: usize,
     end: usize,
 ) -> usize
-    requires lists { AreReplyLists (S.goes side.now automaton.now) (S.matches side.now automaton.now) automaton.now.states lists.now }
+    requires lists { AreReplyLists (S.goes side.now automaton.now)
+        (S.matches side.now automaton.now) automaton.now.states lists.now }
     requires step { step.to < automaton.now.states }
     requires order { at ≤ end }
     requires end { end ≤ length listed.old }
@@ -157,8 +168,9 @@ fn list_replies<S: Side>(
     to
 }
 
-/// Tells what is known of Spoiler's paths of `left` moves, or shorter ones to a dead end, whose first move is `step`, where Duplicator may be
-/// in one of the states at the places from `at` on. At most `room` more states are looked at.
+/// Tells what is known of Spoiler's paths of `left` moves, or shorter ones to a dead end, whose
+/// first move is `step`, where Duplicator may be in one of the states at the places from `at` on.
+/// At most `room` more states are looked at.
 #[cycle(list_rounds)]
 fn told_after<S: Side>(
     side: &S,
@@ -175,7 +187,9 @@ fn told_after<S: Side>(
     requires valid { IsAutomaton automaton.now }
     requires left { 1 ≤ left }
     requires step { step.to < automaton.now.states }
-    requires answers { AreRowsOfAnswers (S.goes side.now automaton.now) (S.matches side.now automaton.now) (Holds rel.now.pairs) automaton.now.states answering.now }
+    requires answers { AreRowsOfAnswers (S.goes side.now automaton.now)
+        (S.matches side.now automaton.now) (Holds rel.now.pairs) automaton.now.states
+        answering.now }
     requires equal { rel.now.size ≡ automaton.now.states }
     requires order { at ≤ end }
     requires end { end ≤ length listed.old }
@@ -214,8 +228,9 @@ fn told_after<S: Side>(
     )
 }
 
-/// Tells what is known of Spoiler's paths of `left` moves from `p`, or shorter ones to a dead end, where Duplicator may be in one of the
-/// states at the places from `at` on. At most `room` more states are looked at.
+/// Tells what is known of Spoiler's paths of `left` moves from `p`, or shorter ones to a dead end,
+/// where Duplicator may be in one of the states at the places from `at` on. At most `room` more
+/// states are looked at.
 #[cycle(list_rounds)]
 fn told_from<S: Side>(
     side: &S,
@@ -232,7 +247,9 @@ fn told_from<S: Side>(
     requires valid { IsAutomaton automaton.now }
     requires left { 1 ≤ left }
     requires state { p < automaton.now.states }
-    requires answers { AreRowsOfAnswers (S.goes side.now automaton.now) (S.matches side.now automaton.now) (Holds rel.now.pairs) automaton.now.states answering.now }
+    requires answers { AreRowsOfAnswers (S.goes side.now automaton.now)
+        (S.matches side.now automaton.now) (Holds rel.now.pairs) automaton.now.states
+        answering.now }
     requires equal { rel.now.size ≡ automaton.now.states }
     requires order { at ≤ end }
     requires end { end ≤ length listed.old }
@@ -261,7 +278,8 @@ fn told_from<S: Side>(
     Told::Holds
 }
 
-/// Tells what is known of the round from `p` and `q`. `listed` is room for the states in which Duplicator may be.
+/// Tells what is known of the round from `p` and `q`. `listed` is room for the states in which
+/// Duplicator may be.
 pub(crate) fn told_by_lists<S: Side>(
     side: &S,
     automaton: &Auto,
@@ -273,13 +291,19 @@ pub(crate) fn told_by_lists<S: Side>(
     listed: &mut [u32],
 ) -> Told
     requires look { 1 ≤ look }
-    requires answers { AreRowsOfAnswers (S.goes side.now automaton.now) (S.matches side.now automaton.now) (Holds rel.now.pairs) automaton.now.states answering.now }
+    requires answers { AreRowsOfAnswers (S.goes side.now automaton.now)
+        (S.matches side.now automaton.now) (Holds rel.now.pairs) automaton.now.states
+        answering.now }
     requires equal { rel.now.size ≡ automaton.now.states }
     requires left { p < automaton.now.states }
     requires right { q < automaton.now.states }
     requires listed { 1 ≤ length listed.old }
-    ensures holds { result ≡ Told.Holds → Round (S.goes side.now automaton.now) (S.goes side.now automaton.now) (S.matches side.now automaton.now) look (Holds rel.now.pairs) p q }
-    ensures fails { result ≡ Told.Fails → Round (S.goes side.now automaton.now) (S.goes side.now automaton.now) (S.matches side.now automaton.now) look (Holds rel.now.pairs) p q → ⊥ }
+    ensures holds { result ≡ Told.Holds
+        → Round (S.goes side.now automaton.now) (S.goes side.now automaton.now)
+        (S.matches side.now automaton.now) look (Holds rel.now.pairs) p q }
+    ensures fails { result ≡ Told.Fails
+        → Round (S.goes side.now automaton.now) (S.goes side.now automaton.now)
+        (S.matches side.now automaton.now) look (Holds rel.now.pairs) p q → ⊥ }
 {
     let mut room = MOST_LOOKED_AT.max(automaton.states() as usize);
     listed[0] = q;

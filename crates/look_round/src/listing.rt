@@ -25,7 +25,10 @@ fn add_list<S: Side>(
 ) -> Result<(), Memory>
     requires left { p < automaton.now.states }
     requires right { q < automaton.now.states }
-    ensures { IfOk result (λ _. AddsReplies (S.goes side.now automaton.now) (S.matches side.now automaton.now) automaton.now.states label p q items.old.items items.new.items) }
+    ensures { IfOk
+        result (λ _.
+        AddsReplies (S.goes side.now automaton.now) (S.matches side.now automaton.now)
+        automaton.now.states label p q items.old.items items.new.items) }
 {
     for at in 0..side.moves(automaton, q) {
         let reply = side.nth(automaton, q, at);
@@ -50,7 +53,8 @@ fn add_lists<S: Side>(
     requires kinds_from { 1 ≤ length kinds.now }
     requires kinds_upto { length kinds.now ≤ MOST_KINDS }
     requires kinds { All (λ s. s < automaton.now.states) kinds.now }
-    requires none { AreListedUpto (S.goes side.now automaton.now) (S.matches side.now automaton.now) automaton.now.states labels kinds.now starts.old.items items.old.items 0 }
+    requires none { AreListedUpto (S.goes side.now automaton.now) (S.matches side.now automaton.now)
+        automaton.now.states labels kinds.now starts.old.items items.old.items 0 }
     ensures { IfOk result (λ _. AreListedUpto (S.goes side.now automaton.now) (S.matches side.now automaton.now) automaton.now.states labels kinds.now starts.new.items items.new.items
         (automaton.now.states * labels * length kinds.now)) }
 {
@@ -97,7 +101,9 @@ impl ReplyLists {
         side: &S,
         automaton: &Auto,
     ) -> Result<ReplyLists, Memory>
-        ensures { IfOk result (AreReplyLists (S.goes side.now automaton.now) (S.matches side.now automaton.now) automaton.now.states) }
+        ensures { IfOk result
+            (AreReplyLists (S.goes side.now automaton.now) (S.matches side.now automaton.now)
+            automaton.now.states) }
     {
         let labels = automaton.labels();
         if labels == 0 || labels > MOST_LISTED_LETTERS {
@@ -124,7 +130,9 @@ impl ReplyLists {
     /// Tells whether there is a list of each state for the step.
     pub(crate) fn has(&self, step: Move) -> bool
         requires { 0 < self.now.labels → step.to < vec_len self.now.kind_of }
-        ensures { result ≡ true → (step.label < self.now.labels) × (slice_index self.now.kind_of.items step.to < self.now.kinds) }
+        ensures { result ≡ true
+            → (step.label < self.now.labels)
+            × (slice_index self.now.kind_of.items step.to < self.now.kinds) }
     {
         step.label < self.labels && self.kind_of[step.to as usize] < self.kinds
     }
@@ -134,8 +142,11 @@ impl ReplyLists {
         requires label { step.label < self.now.labels }
         requires to { step.to < vec_len self.now.kind_of }
         requires kind { slice_index self.now.kind_of.items step.to < self.now.kinds }
-        requires there { IsListThere self.now.starts.items self.now.items.items (list_number self.now step.label step.to from) }
-        ensures { result.now ≡ list_at self.now.starts.items self.now.items.items (list_number self.now step.label step.to from) }
+        requires there { IsListThere self.now.starts.items self.now.items.items
+            (list_number self.now step.label step.to from) }
+        ensures { result.now
+            ≡ list_at self.now.starts.items self.now.items.items
+            (list_number self.now step.label step.to from) }
     {
         let row = from as usize * self.labels as usize + step.label as usize;
         let number = row * self.kinds + self.kind_of[step.to as usize];
@@ -151,11 +162,14 @@ impl ReplyLists {
         step: Move,
         row: &[u64],
     ) -> bool
-        requires lists { AreReplyLists (S.goes side.now automaton.now) (S.matches side.now automaton.now) automaton.now.states self.now }
+        requires lists { AreReplyLists (S.goes side.now automaton.now)
+            (S.matches side.now automaton.now) automaton.now.states self.now }
         requires from { from < automaton.now.states }
         requires step { step.to < automaton.now.states }
         requires row { length row.now ≡ (automaton.now.states + 63) / 64 }
-        ensures { IsTrue result ↔ ((r : ℕ) × IsReply (S.goes side.now automaton.now) (S.matches side.now automaton.now) step.label step.to from r × HasBit row.now r) }
+        ensures { IsTrue result
+            ↔ ((r : ℕ) × IsReply (S.goes side.now automaton.now) (S.matches side.now automaton.now)
+            step.label step.to from r × HasBit row.now r) }
     {
         if self.has(step) {
             return one_has_bit(self.list(from, step), row);

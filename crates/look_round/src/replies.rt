@@ -1,4 +1,5 @@
-//! Where Duplicator may be: a table of bits whose row i has the states that answer Spoiler's first i moves.
+//! Where Duplicator may be: a table of bits whose row i has the states that answer Spoiler's first
+//! i moves.
 
 ghost use Rattle.std.specs.Prelude.{◌≡◌, ◌+◌, ◌*◌, ◌/◌, ◌<◌, ◌≤◌, ◌↔◌, ◌⊎◌, ℕ, false, length, slice_index, IsTrue};
 ghost use Rattle.auto_core.specs.Rows.{cell_of, HasCell, HasBit};
@@ -10,11 +11,13 @@ use crate::sides::Side;
 use auto_core::{Auto, rows};
 use row_steps::{clear_table_row, meets, next_bit};
 
-/// Tells whether the reply answers the step: it has the step's letter, and its state matches the step's.
+/// Tells whether the reply answers the step: it has the step's letter, and its state matches the
+/// step's.
 pub fn is_reply<S: Side>(side: &S, automaton: &Auto, step: Move, reply: Move) -> bool
     requires step { step.to < automaton.now.states }
     requires reply { reply.to < automaton.now.states }
-    ensures { IsTrue result ↔ ((reply.label ≡ step.label) × S.matches side.now automaton.now step.to reply.to) }
+    ensures { IsTrue result
+        ↔ ((reply.label ≡ step.label) × S.matches side.now automaton.now step.to reply.to) }
 {
     if reply.label == step.label {
         side.matched(automaton, step.to, reply.to)
@@ -28,7 +31,9 @@ pub fn has_reply_in<S: Side>(side: &S, automaton: &Auto, from: u32, step: Move, 
     requires from { from < automaton.now.states }
     requires step { step.to < automaton.now.states }
     requires row { length row.now ≡ (automaton.now.states + 63) / 64 }
-    ensures { IsTrue result ↔ ((r : ℕ) × IsReply (S.goes side.now automaton.now) (S.matches side.now automaton.now) step.label step.to from r × HasBit row.now r) }
+    ensures { IsTrue result
+        ↔ ((r : ℕ) × IsReply (S.goes side.now automaton.now) (S.matches side.now automaton.now)
+        step.label step.to from r × HasBit row.now r) }
 {
     for at in 0..side.moves(automaton, from) {
         let reply = side.nth(automaton, from, at);
@@ -87,7 +92,8 @@ fn mark_replies<S: Side>(
     ensures here { (r : ℕ) → r < width * 64
         → HasCell table.new width row r
         ↔ (HasCell table.old width row r ⊎ IsReply (S.goes side.now automaton.now) (S.matches side.now automaton.now) step.label step.to from r) }
-    ensures others { (i r : ℕ) → r < width * 64 → ¬ (i ≡ row) → cell_of table.new width i r ≡ cell_of table.old width i r }
+    ensures others { (i r : ℕ) → r < width * 64 → ¬ (i ≡ row)
+        → cell_of table.new width i r ≡ cell_of table.old width i r }
 {
     for at in 0..side.moves(automaton, from) {
         let reply = side.nth(automaton, from, at);
@@ -97,7 +103,8 @@ fn mark_replies<S: Side>(
     }
 }
 
-/// Writes into the row after `number` the states by which the states of row `number` answer the step.
+/// Writes into the row after `number` the states by which the states of row `number` answer the
+/// step.
 fn step_replies<S: Side>(
     side: &S,
     automaton: &Auto,
@@ -114,7 +121,8 @@ fn step_replies<S: Side>(
     ensures next { (r : ℕ)
         → HasReply table.new automaton.now.states width (number + 1) r
         ↔ HasReplyFrom (S.goes side.now automaton.now) (S.matches side.now automaton.now) step.label step.to (HasReply table.old automaton.now.states width number) r }
-    ensures others { (i r : ℕ) → r < width * 64 → ¬ (i ≡ number + 1) → cell_of table.new width i r ≡ cell_of table.old width i r }
+    ensures others { (i r : ℕ) → r < width * 64 → ¬ (i ≡ number + 1)
+        → cell_of table.new width i r ≡ cell_of table.old width i r }
 {
     clear_table_row(table, width, number + 1);
     let mut at = 0;
@@ -127,8 +135,8 @@ fn step_replies<S: Side>(
     }
 }
 
-/// Writes into the row after `number` the states by which the states of row `number` answer the step, and tells whether one of them is a
-/// state of the other row.
+/// Writes into the row after `number` the states by which the states of row `number` answer the
+/// step, and tells whether one of them is a state of the other row.
 pub fn step_into<S: Side>(
     side: &S,
     automaton: &Auto,
@@ -150,7 +158,8 @@ pub fn step_into<S: Side>(
     ensures next { (r : ℕ)
         → HasReply table.new automaton.now.states width (number + 1) r
         ↔ HasReplyFrom (S.goes side.now automaton.now) (S.matches side.now automaton.now) step.label step.to (HasReply table.old automaton.now.states width number) r }
-    ensures others { (i r : ℕ) → r < width * 64 → ¬ (i ≡ number + 1) → cell_of table.new width i r ≡ cell_of table.old width i r }
+    ensures others { (i r : ℕ) → r < width * 64 → ¬ (i ≡ number + 1)
+        → cell_of table.new width i r ≡ cell_of table.old width i r }
 {
     step_replies(side, automaton, step, table, width, number);
     meets(row, rows::row_at(table, width, number + 1))

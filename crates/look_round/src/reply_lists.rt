@@ -9,7 +9,8 @@ pub(crate) const MOST_LISTED_LETTERS: u32 = 8;
 /// At most so many kinds of states are told apart.
 pub(crate) const MOST_KINDS: usize = 4;
 
-/// For each state, letter and kind of states a list of the states by which the state answers a move by the letter to a state of the kind.
+/// For each state, letter and kind of states a list of the states by which the state answers a move
+/// by the letter to a state of the kind.
 #[derive(Drop)]
 pub struct ReplyLists {
     pub(crate) labels: u32,

@@ -1,4 +1,5 @@
-//! One round: Spoiler's paths one after another, each move followed by all of Duplicator's replies at once.
+//! One round: Spoiler's paths one after another, each move followed by all of Duplicator's replies
+//! at once.
 
 ghost use Rattle.std.specs.Prelude.{◌≡◌, ◌+◌, ◌*◌, ◌/◌, ◌<◌, ◌≤◌, ◌↔◌, ℕ, length, IsTrue};
 ghost use Rattle.auto_core.specs.Automaton.{IsAutomaton};
@@ -19,7 +20,8 @@ use bit_rel::Rel;
 use row_steps::{clear_table_row, next_bit};
 use smallvec::SmallVec;
 
-/// Tells whether it is known that a state of row `number` of the table answers the step by a related one.
+/// Tells whether it is known that a state of row `number` of the table answers the step by a
+/// related one.
 fn is_met<S: Side>(
     side: &S,
     automaton: &Auto,
@@ -30,7 +32,9 @@ fn is_met<S: Side>(
     width: usize,
     number: usize,
 ) -> bool
-    requires answers { AreRowsOfAnswers (S.goes side.now automaton.now) (S.matches side.now automaton.now) (Holds rel.now.pairs) automaton.now.states answering.now }
+    requires answers { AreRowsOfAnswers (S.goes side.now automaton.now)
+        (S.matches side.now automaton.now) (Holds rel.now.pairs) automaton.now.states
+        answering.now }
     requires here { number * width + width ≤ length table.now }
     requires width { width ≡ (automaton.now.states + 63) / 64 }
     ensures { IsTrue result
@@ -53,8 +57,9 @@ fn is_met<S: Side>(
     false
 }
 
-/// Tells whether Spoiler's paths of `left` moves, or shorter ones to a dead end, are answered where their first move is `step`.
-/// The path holds Spoiler's moves before, and row `path.len()` of `sets` the states where Duplicator may be.
+/// Tells whether Spoiler's paths of `left` moves, or shorter ones to a dead end, are answered where
+/// their first move is `step`. The path holds Spoiler's moves before, and row `path.len()` of
+/// `sets` the states where Duplicator may be.
 #[cycle(round)]
 fn step_answered<S: Side>(
     side: &S,
@@ -73,7 +78,9 @@ fn step_answered<S: Side>(
     requires valid { IsAutomaton automaton.now }
     requires left { 1 ≤ left }
     requires step { step.to < automaton.now.states }
-    requires answers { AreRowsOfAnswers (S.goes side.now automaton.now) (S.matches side.now automaton.now) (Holds rel.now.pairs) automaton.now.states answering.now }
+    requires answers { AreRowsOfAnswers (S.goes side.now automaton.now)
+        (S.matches side.now automaton.now) (Holds rel.now.pairs) automaton.now.states
+        answering.now }
     requires equal { rel.now.size ≡ automaton.now.states }
     requires width { width ≡ (automaton.now.states + 63) / 64 }
     requires path { length path.old.items + left ≤ path.old.capacity }
@@ -81,13 +88,15 @@ fn step_answered<S: Side>(
     requires letters { left < length letters.old }
     requires held { HasRows held.old width left }
     requires known { HasRows known.old width left }
-    requires answered { AreKnown (S.goes side.now automaton.now) (S.matches side.now automaton.now) (Holds rel.now.pairs) automaton.now.states width letters.old held.old known.old }
+    requires answered { AreKnown (S.goes side.now automaton.now) (S.matches side.now automaton.now)
+        (Holds rel.now.pairs) automaton.now.states width letters.old held.old known.old }
     ensures told { IsTrue result
         ↔ RoundAfter (S.goes side.now automaton.now) (S.matches side.now automaton.now) (Holds rel.now.pairs) left step.label step.to (HasReply sets.old automaton.now.states width (length path.old.items)) }
     ensures path { path.new.items ≡ path.old.items }
     ensures capacity { path.new.capacity ≡ path.old.capacity }
     ensures kept { KeepsRows sets.old sets.new width (length path.old.items) }
-    ensures answered { AreKnown (S.goes side.now automaton.now) (S.matches side.now automaton.now) (Holds rel.now.pairs) automaton.now.states width letters.new held.new known.new }
+    ensures answered { AreKnown (S.goes side.now automaton.now) (S.matches side.now automaton.now)
+        (Holds rel.now.pairs) automaton.now.states width letters.new held.new known.new }
 {
     let number = path.len();
     let row = rows::row_at(sets, width, number);
@@ -122,8 +131,9 @@ fn step_answered<S: Side>(
     true
 }
 
-/// Tells whether Spoiler's paths of `left` moves from `p`, or shorter ones to a dead end, are answered. The path holds Spoiler's
-/// moves before, and row `path.len()` of `sets` the states where Duplicator may be.
+/// Tells whether Spoiler's paths of `left` moves from `p`, or shorter ones to a dead end, are
+/// answered. The path holds Spoiler's moves before, and row `path.len()` of `sets` the states where
+/// Duplicator may be.
 #[cycle(round)]
 fn round_from<S: Side>(
     side: &S,
@@ -142,7 +152,9 @@ fn round_from<S: Side>(
     requires valid { IsAutomaton automaton.now }
     requires left { 1 ≤ left }
     requires state { p < automaton.now.states }
-    requires answers { AreRowsOfAnswers (S.goes side.now automaton.now) (S.matches side.now automaton.now) (Holds rel.now.pairs) automaton.now.states answering.now }
+    requires answers { AreRowsOfAnswers (S.goes side.now automaton.now)
+        (S.matches side.now automaton.now) (Holds rel.now.pairs) automaton.now.states
+        answering.now }
     requires equal { rel.now.size ≡ automaton.now.states }
     requires width { width ≡ (automaton.now.states + 63) / 64 }
     requires path { length path.old.items + left ≤ path.old.capacity }
@@ -150,13 +162,15 @@ fn round_from<S: Side>(
     requires letters { left < length letters.old }
     requires held { HasRows held.old width left }
     requires known { HasRows known.old width left }
-    requires answered { AreKnown (S.goes side.now automaton.now) (S.matches side.now automaton.now) (Holds rel.now.pairs) automaton.now.states width letters.old held.old known.old }
+    requires answered { AreKnown (S.goes side.now automaton.now) (S.matches side.now automaton.now)
+        (Holds rel.now.pairs) automaton.now.states width letters.old held.old known.old }
     ensures told { IsTrue result
         ↔ RoundFrom (S.goes side.now automaton.now) (S.matches side.now automaton.now) (Holds rel.now.pairs) left p (HasReply sets.old automaton.now.states width (length path.old.items)) }
     ensures path { path.new.items ≡ path.old.items }
     ensures capacity { path.new.capacity ≡ path.old.capacity }
     ensures kept { KeepsRows sets.old sets.new width (length path.old.items) }
-    ensures answered { AreKnown (S.goes side.now automaton.now) (S.matches side.now automaton.now) (Holds rel.now.pairs) automaton.now.states width letters.new held.new known.new }
+    ensures answered { AreKnown (S.goes side.now automaton.now) (S.matches side.now automaton.now)
+        (Holds rel.now.pairs) automaton.now.states width letters.new held.new known.new }
 {
     for at in 0..side.moves(automaton, p) {
         let step = side.nth(automaton, p, at);
@@ -184,7 +198,9 @@ fn whole_round<S: Side>(
     known: &mut [u64],
 ) -> bool
     requires look { 1 ≤ look }
-    requires answers { AreRowsOfAnswers (S.goes side.now automaton.now) (S.matches side.now automaton.now) (Holds rel.now.pairs) automaton.now.states answering.now }
+    requires answers { AreRowsOfAnswers (S.goes side.now automaton.now)
+        (S.matches side.now automaton.now) (Holds rel.now.pairs) automaton.now.states
+        answering.now }
     requires equal { rel.now.size ≡ automaton.now.states }
     requires left { p < automaton.now.states }
     requires right { q < automaton.now.states }
@@ -207,9 +223,10 @@ fn whole_round<S: Side>(
     )
 }
 
-/// Tells whether the round from `p` and `q` holds: each path of `look` moves that Spoiler may show from `p`, or shorter one to a
-/// dead end, Duplicator answers from `q`, at least one of its letters, matched at each place, up to a pair of the relation.
-/// The scratch was made for this automaton and lookahead. (Clemente and Mayr, lookahead simulation.)
+/// Tells whether the round from `p` and `q` holds: each path of `look` moves that Spoiler may show
+/// from `p`, or shorter one to a dead end, Duplicator answers from `q`, at least one of its
+/// letters, matched at each place, up to a pair of the relation. The scratch was made for this
+/// automaton and lookahead. (Clemente and Mayr, lookahead simulation.)
 pub fn round_holds<S: Side>(
     side: &S,
     automaton: &Auto,
@@ -247,7 +264,9 @@ pub fn round_holds_by<S: Side>(
     requires look_from { 1 ≤ look }
     requires look_upto { look ≤ 6 }
     requires equal { rel.now.size ≡ automaton.now.states }
-    requires answers { AreRowsOfAnswers (S.goes side.now automaton.now) (S.matches side.now automaton.now) (Holds rel.now.pairs) automaton.now.states answering.now }
+    requires answers { AreRowsOfAnswers (S.goes side.now automaton.now)
+        (S.matches side.now automaton.now) (Holds rel.now.pairs) automaton.now.states
+        answering.now }
     requires made { scratch.old ≡ record { states = automaton.now.states; look = look } }
     requires left { p < automaton.now.states }
     requires right { q < automaton.now.states }

@@ -11,9 +11,10 @@ use std::marker::Model;
 /// Fewer than so many states are listed at a time.
 const MOST_LISTED: usize = 256;
 
-/// Room for the rounds on an automaton at a lookahead: Spoiler's path, a row of bits for each of its places and for its start, room for
-/// what a round remembers, and for the states in which Duplicator may be, where they are few.
-/// Contracts see the number of states and the lookahead that it was made for.
+/// Room for the rounds on an automaton at a lookahead: Spoiler's path, a row of bits for each of
+/// its places and for its start, room for what a round remembers, and for the states in which
+/// Duplicator may be, where they are few. Contracts see the number of states and the lookahead that
+/// it was made for.
 #[derive(Drop)]
 pub struct Scratch {
     pub(crate) alloc: Global,

@@ -1,4 +1,5 @@
-//! The sides from which the game is played: which moves a state has, and what one state asks of another.
+//! The sides from which the game is played: which moves a state has, and what one state asks of
+//! another.
 
 ghost use Rattle.std.specs.Prelude.{◌≡◌, ◌<◌, ◌↔◌, ℕ, List, length, Contains, slice_index_or, IsTrue};
 ghost use Rattle.auto_core.specs.Automaton.{Automaton, IsAutomaton, Moves, trans, trans_at};
@@ -26,7 +27,8 @@ pub trait Side {
     /// A transition as a move of this side, with the state that the move leaves as the source.
     ghost seen: { Self → Trans → Trans };
 
-    /// The moves that lead to a state, each with the state that it leaves in place of the one that it leads to.
+    /// The moves that lead to a state, each with the state that it leaves in place of the one that
+    /// it leads to.
     ghost arriving: { Self → Automaton → ℕ → List Move };
 
     /// The number of the state's moves.
@@ -41,7 +43,8 @@ pub trait Side {
         ensures item { result ≡ slice_index_or (list self.now automaton.now state) at (move 0 0) }
         ensures in_range { result.to < automaton.now.states };
 
-    /// The automaton's transition with this number as a move of this side, with the state that it leaves as the source.
+    /// The automaton's transition with this number as a move of this side, with the state that it
+    /// leaves as the source.
     fn seen_at(&self, automaton: &Auto, number: usize) -> Trans
         requires { number < length automaton.now.transitions }
         ensures seen { result ≡ seen self.now (trans_at automaton.now number) }
@@ -53,11 +56,13 @@ pub trait Side {
         requires { state < automaton.now.states }
         ensures { result ≡ length (arriving self.now automaton.now state) };
 
-    /// The move at this place among those that lead to the state, with the state that it leaves in place of the one that it leads to.
+    /// The move at this place among those that lead to the state, with the state that it leaves in
+    /// place of the one that it leads to.
     fn nth_arrival(&self, automaton: &Auto, state: u32, at: u32) -> Move
         requires state { state < automaton.now.states }
         requires place { at < length (arriving self.now automaton.now state) }
-        ensures item { result ≡ slice_index_or (arriving self.now automaton.now state) at (move 0 0) }
+        ensures item { result
+            ≡ slice_index_or (arriving self.now automaton.now state) at (move 0 0) }
         ensures in_range { result.to < automaton.now.states };
 
     /// Tells whether `q` has what Spoiler's `p` asks of it.
@@ -67,19 +72,24 @@ pub trait Side {
         ensures { IsTrue result ↔ matches self.now automaton.now p q };
 
     /// A move leads to a state of the automaton.
-    ghost stays: { (s : Self) (A : Automaton) → IsAutomaton A → (p a q : ℕ) → goes s A p a q → q < A.states };
+    ghost stays: { (s : Self) (A : Automaton) → IsAutomaton A → (p a q : ℕ) → goes s A p a q
+        → q < A.states };
 
     /// The list of a state has its moves.
-    ghost lists: { (s : Self) (A : Automaton) (p a q : ℕ) → Contains (list s A p) (move a q) ↔ goes s A p a q };
+    ghost lists: { (s : Self) (A : Automaton) (p a q : ℕ)
+        → Contains (list s A p) (move a q) ↔ goes s A p a q };
 
     /// The moves are the transitions, seen from this side.
-    ghost sees: { (s : Self) (A : Automaton) (p a q : ℕ) → goes s A p a q ↔ ((t : Trans) × Contains A.transitions t × (seen s t ≡ trans p a q)) };
+    ghost sees: { (s : Self) (A : Automaton) (p a q : ℕ)
+        → goes s A p a q ↔ ((t : Trans) × Contains A.transitions t × (seen s t ≡ trans p a q)) };
 
     /// The list of what leads to a state has the moves to it.
-    ghost arrives: { (s : Self) (A : Automaton) (p a q : ℕ) → Contains (arriving s A q) (move a p) ↔ goes s A p a q };
+    ghost arrives: { (s : Self) (A : Automaton) (p a q : ℕ)
+        → Contains (arriving s A q) (move a p) ↔ goes s A p a q };
 
     /// What matches is transitive.
-    ghost joins: { (s : Self) (A : Automaton) (p q r : ℕ) → matches s A p q → matches s A q r → matches s A p r };
+    ghost joins: { (s : Self) (A : Automaton) (p q r : ℕ) → matches s A p q → matches s A q r
+        → matches s A p r };
 }
 
 /// Tells whether `q` is accepting if `p` is.
@@ -95,7 +105,8 @@ fn accepting_if(automaton: &Auto, p: u32, q: u32) -> bool
     }
 }
 
-/// The side of the transitions as they are: moves go from source to target, and an accepting state asks for an accepting one.
+/// The side of the transitions as they are: moves go from source to target, and an accepting state
+/// asks for an accepting one.
 #[derive(Clone, Copy, Debug)]
 pub struct Forward;
 
@@ -150,7 +161,8 @@ impl Side for Forward {
     }
 }
 
-/// The side of the transitions turned round: moves go from target to source, and an initial state asks for an initial one besides.
+/// The side of the transitions turned round: moves go from target to source, and an initial state
+/// asks for an initial one besides.
 #[derive(Clone, Copy, Debug)]
 pub struct Backward;
 

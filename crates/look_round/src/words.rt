@@ -18,8 +18,10 @@ fn mark_down(table: &mut [u64], width: usize, count: usize, at: usize, row: &[u6
     requires table { length table.old ≡ count * width }
     requires place { at < width * 64 }
     requires few { length row.now < 2 ^ 32 }
-    ensures here { (r : ℕ) → r < count → HasCell table.new width r at ↔ (HasCell table.old width r at ⊎ HasBit row.now r) }
-    ensures others { (r s : ℕ) → s < width * 64 → ¬ (s ≡ at) → cell_of table.new width r s ≡ cell_of table.old width r s }
+    ensures here { (r : ℕ) → r < count
+        → HasCell table.new width r at ↔ (HasCell table.old width r at ⊎ HasBit row.now r) }
+    ensures others { (r s : ℕ) → s < width * 64 → ¬ (s ≡ at)
+        → cell_of table.new width r s ≡ cell_of table.old width r s }
 {
     let mut next = 0;
     while let Some(r) = next_bit(row, next) {
@@ -31,7 +33,8 @@ fn mark_down(table: &mut [u64], width: usize, count: usize, at: usize, row: &[u6
     }
 }
 
-/// Writes for each state the places that a move from it by the letter leads to, by way of the states of the row `asked`.
+/// Writes for each state the places that a move from it by the letter leads to, by way of the
+/// states of the row `asked`.
 fn find_places<S: Side>(
     side: &S,
     automaton: &Auto,
@@ -43,7 +46,9 @@ fn find_places<S: Side>(
     requires asked { length asked.now ≡ (automaton.now.states + 63) / 64 }
     requires places { length places.now ≡ automaton.now.states }
     requires found { length found.old ≡ automaton.now.states }
-    ensures { (j q : ℕ) → j < 64 → q < automaton.now.states → HasCell found.new 1 q j ↔ LeadsToPlace (S.goes side.now automaton.now) places.now asked.now label j q }
+    ensures { (j q : ℕ) → j < 64 → q < automaton.now.states
+        → HasCell found.new 1 q j
+        ↔ LeadsToPlace (S.goes side.now automaton.now) places.now asked.now label j q }
 {
     rows::clear_row(found);
     for number in 0..automaton.transitions().len() {
@@ -55,7 +60,8 @@ fn find_places<S: Side>(
     }
 }
 
-/// Writes into the row of each place the states from which a move by the letter leads to a state of the row `asked` that has the place.
+/// Writes into the row of each place the states from which a move by the letter leads to a state of
+/// the row `asked` that has the place.
 /// `found` is room for a word for each state.
 fn step_back<S: Side>(
     side: &S,
@@ -72,7 +78,9 @@ fn step_back<S: Side>(
     requires places { length places.now ≡ automaton.now.states }
     requires found { length found.old ≡ automaton.now.states }
     requires made { length made.old ≡ 64 * width }
-    ensures { (j q : ℕ) → j < 64 → q < automaton.now.states → HasCell made.new width j q ↔ LeadsToPlace (S.goes side.now automaton.now) places.now asked.now label j q }
+    ensures { (j q : ℕ) → j < 64 → q < automaton.now.states
+        → HasCell made.new width j q
+        ↔ LeadsToPlace (S.goes side.now automaton.now) places.now asked.now label j q }
 {
     find_places(side, automaton, label, asked, places, found);
     let count = automaton.states() as usize;
@@ -94,7 +102,8 @@ fn is_new(columns: &[u64], width: usize, count: usize, row: &[u64]) -> bool
     true
 }
 
-/// Adds the first rows of `made` that are new as columns, as far as there is room for columns, and tells how many there are then.
+/// Adds the first rows of `made` that are new as columns, as far as there is room for columns, and
+/// tells how many there are then.
 fn add_columns(
     columns: &mut [u64],
     width: usize,
@@ -120,7 +129,8 @@ fn add_columns(
     count
 }
 
-/// Adds the columns of the words that go on, by a letter below `letters` and the kind whose matches `asked` has, with the words of the places.
+/// Adds the columns of the words that go on, by a letter below `letters` and the kind whose matches
+/// `asked` has, with the words of the places.
 fn lengthen_by<S: Side>(
     side: &S,
     automaton: &Auto,
@@ -139,16 +149,21 @@ fn lengthen_by<S: Side>(
     requires valid { IsAutomaton automaton.now }
     requires width { width ≡ (automaton.now.states + 63) / 64 }
     requires size { length asked.now ≡ width }
-    requires asked { (r : ℕ) → r < width * 64 → HasBit asked.now r ↔ ((r < automaton.now.states) × S.matches side.now automaton.now kind r) }
+    requires asked { (r : ℕ) → r < width * 64
+        → HasBit asked.now r
+        ↔ ((r < automaton.now.states) × S.matches side.now automaton.now kind r) }
     requires places_len { length places.now ≡ automaton.now.states }
-    requires places { AreWordPlaces (S.goes side.now automaton.now) (S.matches side.now automaton.now) automaton.now.states places.now used }
+    requires places { AreWordPlaces (S.goes side.now automaton.now)
+        (S.matches side.now automaton.now) automaton.now.states places.now used }
     requires used { used ≤ 64 }
     requires room { length columns.old ≡ room * width }
     requires count { count ≤ room }
-    requires columns { AreColumns (S.goes side.now automaton.now) (S.matches side.now automaton.now) automaton.now.states columns.old width count }
+    requires columns { AreColumns (S.goes side.now automaton.now) (S.matches side.now automaton.now)
+        automaton.now.states columns.old width count }
     requires found { length found.old ≡ automaton.now.states }
     requires made { length made.old ≡ 64 * width }
-    ensures columns { AreColumns (S.goes side.now automaton.now) (S.matches side.now automaton.now) automaton.now.states columns.new width result }
+    ensures columns { AreColumns (S.goes side.now automaton.now) (S.matches side.now automaton.now)
+        automaton.now.states columns.new width result }
     ensures room { result ≤ room }
 {
     let mut count = count;
@@ -159,8 +174,8 @@ fn lengthen_by<S: Side>(
     count
 }
 
-/// Adds the columns of the words that go on, by one letter and a state of each kind, with the words of the places. `found` is room for a
-/// word for each state.
+/// Adds the columns of the words that go on, by one letter and a state of each kind, with the words
+/// of the places. `found` is room for a word for each state.
 fn lengthen<S: Side>(
     side: &S,
     automaton: &Auto,
@@ -179,17 +194,21 @@ fn lengthen<S: Side>(
     requires valid { IsAutomaton automaton.now }
     requires width { width ≡ (automaton.now.states + 63) / 64 }
     requires size { length matches.now ≡ automaton.now.states * width }
-    requires matches { AreMatches (S.matches side.now automaton.now) automaton.now.states matches.now width automaton.now.states }
+    requires matches { AreMatches (S.matches side.now automaton.now) automaton.now.states
+        matches.now width automaton.now.states }
     requires kinds { All (λ s. s < automaton.now.states) kinds.now }
     requires places_len { length places.now ≡ automaton.now.states }
-    requires places { AreWordPlaces (S.goes side.now automaton.now) (S.matches side.now automaton.now) automaton.now.states places.now used }
+    requires places { AreWordPlaces (S.goes side.now automaton.now)
+        (S.matches side.now automaton.now) automaton.now.states places.now used }
     requires used { used ≤ 64 }
     requires room { length columns.old ≡ room * width }
     requires count { count ≤ room }
-    requires columns { AreColumns (S.goes side.now automaton.now) (S.matches side.now automaton.now) automaton.now.states columns.old width count }
+    requires columns { AreColumns (S.goes side.now automaton.now) (S.matches side.now automaton.now)
+        automaton.now.states columns.old width count }
     requires found { length found.old ≡ automaton.now.states }
     requires made { length made.old ≡ 64 * width }
-    ensures columns { AreColumns (S.goes side.now automaton.now) (S.matches side.now automaton.now) automaton.now.states columns.new width result }
+    ensures columns { AreColumns (S.goes side.now automaton.now) (S.matches side.now automaton.now)
+        automaton.now.states columns.new width result }
     ensures room { result ≤ room }
 {
     let mut count = count;
@@ -227,9 +246,11 @@ fn has_one(row: &[u64]) -> bool
     }
 }
 
-/// Tells whether the words of the column with this row are lengthened. A first walk, before which no column was walked, passes over those
-/// that most states have, since they tell little; a second one takes these and the new ones. With `all` it is the turn of each. Once there
-/// are `many` columns it is the turn of those alone that just one state has: long rings are told apart by such.
+/// Tells whether the words of the column with this row are lengthened. A first walk, before which
+/// no column was walked, passes over those that most states have, since they tell little; a second
+/// one takes these and the new ones. With `all` it is the turn of each. Once there are `many`
+/// columns it is the turn of those alone that just one state has: long rings are told apart by
+/// such.
 fn has_turn(row: &[u64], states: u32, at: usize, walked: usize, all: bool, many: bool) -> bool
     requires { length row.now < 2 ^ 32 }
 {
@@ -252,7 +273,8 @@ struct Filled {
     next: usize,
 }
 
-/// Lets the 64 places be the columns from `from` on whose turn it is, and tells how many places are used and which column comes next.
+/// Lets the 64 places be the columns from `from` on whose turn it is, and tells how many places are
+/// used and which column comes next.
 fn fill_places(
     columns: &[u64],
     width: usize,
@@ -286,8 +308,9 @@ fn fill_places(
     Filled { used, next: count }
 }
 
-/// Adds columns of words, each one letter longer than that of a column whose turn it is, as far as there is room, and tells how many
-/// columns there are then. A former walk tried the first `walked` columns. `found` is room for a word for each state.
+/// Adds columns of words, each one letter longer than that of a column whose turn it is, as far as
+/// there is room, and tells how many columns there are then. A former walk tried the first `walked`
+/// columns. `found` is room for a word for each state.
 fn walk_columns<S: Side>(
     side: &S,
     automaton: &Auto,
@@ -307,15 +330,18 @@ fn walk_columns<S: Side>(
     requires few { width < 2 ^ 32 }
     requires width { width ≡ (automaton.now.states + 63) / 64 }
     requires size { length matches.now ≡ automaton.now.states * width }
-    requires matches { AreMatches (S.matches side.now automaton.now) automaton.now.states matches.now width automaton.now.states }
+    requires matches { AreMatches (S.matches side.now automaton.now) automaton.now.states
+        matches.now width automaton.now.states }
     requires kinds { All (λ s. s < automaton.now.states) kinds.now }
     requires room { length columns.old ≡ room * width }
     requires count { count ≤ room }
-    requires columns { AreColumns (S.goes side.now automaton.now) (S.matches side.now automaton.now) automaton.now.states columns.old width count }
+    requires columns { AreColumns (S.goes side.now automaton.now) (S.matches side.now automaton.now)
+        automaton.now.states columns.old width count }
     requires places { length places.old ≡ automaton.now.states }
     requires found { length found.old ≡ automaton.now.states }
     requires made { length made.old ≡ 64 * width }
-    ensures columns { AreColumns (S.goes side.now automaton.now) (S.matches side.now automaton.now) automaton.now.states columns.new width result }
+    ensures columns { AreColumns (S.goes side.now automaton.now) (S.matches side.now automaton.now)
+        automaton.now.states columns.new width result }
     ensures room { result ≤ room }
 {
     let all = kinds.len() < 2;
@@ -347,8 +373,10 @@ fn walk_columns<S: Side>(
     count
 }
 
-/// Writes columns of words of the letters below `letters`, as far as there is room for columns, and tells how many they are.
-/// `ends` is room for one row, `places` and `found` for a word for each state, and `made` for a row for each place.
+/// Writes columns of words of the letters below `letters`, as far as there is room for columns, and
+/// tells how many they are.
+/// `ends` is room for one row, `places` and `found` for a word for each state, and `made` for a row
+/// for each place.
 pub(crate) fn write_columns<S: Side>(
     side: &S,
     automaton: &Auto,
@@ -366,7 +394,8 @@ pub(crate) fn write_columns<S: Side>(
     requires valid { IsAutomaton automaton.now }
     requires width { width ≡ (automaton.now.states + 63) / 64 }
     requires size { length matches.now ≡ automaton.now.states * width }
-    requires matches { AreMatches (S.matches side.now automaton.now) automaton.now.states matches.now width automaton.now.states }
+    requires matches { AreMatches (S.matches side.now automaton.now) automaton.now.states
+        matches.now width automaton.now.states }
     requires kinds { All (λ s. s < automaton.now.states) kinds.now }
     requires few { width < 2 ^ 32 }
     requires some { 1 ≤ room }
@@ -375,7 +404,8 @@ pub(crate) fn write_columns<S: Side>(
     requires places { length places.old ≡ automaton.now.states }
     requires found { length found.old ≡ automaton.now.states }
     requires made { length made.old ≡ 64 * width }
-    ensures columns { AreColumns (S.goes side.now automaton.now) (S.matches side.now automaton.now) automaton.now.states columns.new width result }
+    ensures columns { AreColumns (S.goes side.now automaton.now) (S.matches side.now automaton.now)
+        automaton.now.states columns.new width result }
     ensures room { result ≤ room }
 {
     mark_below(ends, automaton.states());

@@ -3,7 +3,8 @@ use Rattle.std.specs.Prelude.{◌↔◌, ℕ, List}
 use Rattle.auto_core.specs.Game.{Close}
 use Rattle.auto_core.specs.Reach.{IsTable, HasArc, ReturnsTo}
 
--- From the place q arcs lead to one that a flagged arc leads out of and back to, by any number of arcs.
+-- From the place q arcs lead to one that a flagged arc leads out of and back to, by any number of
+-- arcs.
 abbrev pub LeadsToLoop : (ℕ → ℕ → Type 0) → (ℕ → ℕ → Type 0) → ℕ → Type 0
 LeadsToLoop any flagged q = (x : ℕ) × Close any q x × ReturnsTo any flagged x
 

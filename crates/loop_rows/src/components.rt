@@ -75,8 +75,8 @@ fn has_arc_within(flagged: &[u64], count: u32, width: usize, places: &[u64]) -> 
     false
 }
 
-/// Marks all that reaches the place as looping where a flagged arc leads within its component, and otherwise its component as done. The
-/// last three rows are used on the way.
+/// Marks all that reaches the place as looping where a flagged arc leads within its component, and
+/// otherwise its component as done. The last three rows are used on the way.
 pub fn mark_component(
     any: &[u64],
     flagged: &[u64],
@@ -101,8 +101,10 @@ pub fn mark_component(
     requires component_len { length component.old ≡ width }
     requires behind_len { length behind.old ≡ width }
     requires done_len { length done.old ≡ width }
-    requires so_far { AreDone (HasArc any.now count width) (HasArc flagged.now count width) count looping.old done_places.old at }
-    ensures { AreDone (HasArc any.now count width) (HasArc flagged.now count width) count looping.new done_places.new (at + 1) }
+    requires so_far { AreDone (HasArc any.now count width) (HasArc flagged.now count width) count
+        looping.old done_places.old at }
+    ensures { AreDone (HasArc any.now count width) (HasArc flagged.now count width) count
+        looping.new done_places.new (at + 1) }
 {
     write_component(any, turned, count, width, at, component, behind, done);
     if has_arc_within(flagged, count, width, component) {

@@ -34,7 +34,8 @@ impl Model for Room {
     ghost invariant = { HasLoopRoom };
 }
 
-/// Marks the places from which one is reached that a flagged arc leads out of and back to, in rows and a table for the work.
+/// Marks the places from which one is reached that a flagged arc leads out of and back to, in rows
+/// and a table for the work.
 fn mark_in(
     any: &[u64],
     flagged: &[u64],
@@ -111,12 +112,13 @@ impl Room {
     }
 }
 
-/// Marks the places of the table `any` from which its arcs lead to one that a flagged arc leads out of and back to, by any number of arcs.
-/// What the room and the row hold before does not matter.
+/// Marks the places of the table `any` from which its arcs lead to one that a flagged arc leads out
+/// of and back to, by any number of arcs. What the room and the row hold before does not matter.
 pub fn mark_loops(any: &[u64], flagged: &[u64], count: u32, looping: &mut [u64], room: &mut Room)
     requires any { IsTable any.now count ((count + 63) / 64) }
     requires flagged { IsTable flagged.now count ((count + 63) / 64) }
-    requires arcs { AreArcs (HasArc flagged.now count ((count + 63) / 64)) (HasArc any.now count ((count + 63) / 64)) }
+    requires arcs { AreArcs (HasArc flagged.now count ((count + 63) / 64))
+        (HasArc any.now count ((count + 63) / 64)) }
     requires room { room.old ≡ count }
     requires row { length looping.old ≡ (count + 63) / 64 }
     ensures marked { (q : ℕ)

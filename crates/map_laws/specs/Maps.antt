@@ -3,8 +3,8 @@ use Rattle.std.specs.Prelude.{◌≡◌, ℕ, ◌<◌, ◌↔◌, List, All, map
 use Rattle.auto_core.specs.Automaton.{Automaton, IsAutomaton, Moves, IsAccepting}
 use Rattle.auto_core.specs.Quotient.{class_of}
 
--- The maps carry A over into B: the initial state becomes the initial one, each move a move by the letter's image, and
--- each accepting state an accepting one.
+-- The maps carry A over into B: the initial state becomes the initial one, each move a move by the
+-- letter's image, and each accepting state an accepting one.
 pub record CarriesOverBy (A B : Automaton) (letter image : ℕ → ℕ) : Type 0 where
   pub initial : B.initial ≡ image A.initial
   pub moves : (p a q : ℕ) → Moves A p a q → Moves B (image p) (letter a) (image q)
@@ -21,7 +21,8 @@ HasSameColumns B a b = (p q : ℕ) → Moves B p a q ↔ Moves B p b q
 -- Letters of one class have the same moves.
 abbrev pub JoinsEqualColumns : Automaton → List ℕ → Type 0
 JoinsEqualColumns B classes =
-    (a b : ℕ) → a < B.labels → b < B.labels → class_of classes a ≡ class_of classes b → HasSameColumns B a b
+    (a b : ℕ) → a < B.labels → b < B.labels → class_of classes a ≡ class_of classes b
+    → HasSameColumns B a b
 
 -- The class of each letter of the word.
 abbrev pub classes_in : List ℕ → List ℕ → List ℕ
@@ -31,7 +32,8 @@ classes_in classes w = map (class_of classes) w
 abbrev pub IsWordOver : ℕ → List ℕ → Type 0
 IsWordOver labels w = All (λ a. a < labels) w
 
--- C has the states of A, and the classes for letters: a move for each move of A, by the class of its letter.
+-- C has the states of A, and the classes for letters: a move for each move of A, by the class of
+-- its letter.
 pub record IsRenamed (A : Automaton) (classes : List ℕ) (C : Automaton) : Type 0 where
   pub valid : IsAutomaton C
   pub states : C.states ≡ A.states

@@ -1,4 +1,5 @@
-//! The laws of maps of states and of classes of letters: each is the contract of a function that does nothing.
+//! The laws of maps of states and of classes of letters: each is the contract of a function that
+//! does nothing.
 #![tactic(auto)]
 
 ghost use Rattle.map_laws.specs.Bisimulation.{QuotientCarriesOver, BisimulationQuotientIsSame};
@@ -14,7 +15,8 @@ pub fn images_are_accepted()
     ensures { ImagesAreAccepted }
 {}
 
-/// The automaton over classes of letters accepts the lassos of classes of what the automaton accepts.
+/// The automaton over classes of letters accepts the lassos of classes of what the automaton
+/// accepts.
 pub fn classes_are_accepted()
     ensures { ClassesAreAccepted }
 {}
@@ -29,7 +31,8 @@ pub fn letters_are_found()
     ensures { LettersAreFound }
 {}
 
-/// Inclusion is the same over classes, if letters of one class have the same moves in the second automaton.
+/// Inclusion is the same over classes, if letters of one class have the same moves in the second
+/// automaton.
 pub fn inclusion_over_classes()
     ensures { InclusionOverClasses }
 {}

@@ -12,7 +12,8 @@ pub fn pumping()
     ensures { Pumping }
 {}
 
-/// A lasso is accepted if it is accepted with turns of its loop put into its prefix and several taken as one.
+/// A lasso is accepted if it is accepted with turns of its loop put into its prefix and several
+/// taken as one.
 pub fn reblocking()
     ensures { Reblocking }
 {}

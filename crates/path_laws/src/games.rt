@@ -2,22 +2,26 @@
 
 ghost use Rattle.path_laws.specs.Games.{FollowedForward, FollowedBackward, FollowedToTheEnd, FollowedMoveByMove, FollowedMoveByMoveBackward, FollowedAcross, AcrossIncludes, ClosureIsLeast, ClosureIsShort, StrictStepsAreFew, ClosureStaysStable, ClosureStaysStableBackward};
 
-/// What the closure of a relation that is stable forward relates matches, and paths from the first are followed from the second.
+/// What the closure of a relation that is stable forward relates matches, and paths from the first
+/// are followed from the second.
 pub fn followed_forward()
     ensures { FollowedForward }
 {}
 
-/// What the closure of a relation that is stable backward relates matches, and backward paths from the first are followed from the second.
+/// What the closure of a relation that is stable backward relates matches, and backward paths from
+/// the first are followed from the second.
 pub fn followed_backward()
     ensures { FollowedBackward }
 {}
 
-/// A path that ends in the first has a matching path that ends in the second, for a relation that is stable backward.
+/// A path that ends in the first has a matching path that ends in the second, for a relation that
+/// is stable backward.
 pub fn followed_to_the_end()
     ensures { FollowedToTheEnd }
 {}
 
-/// At lookahead 1, forward, the closure holds at each place of the path and the one that follows it.
+/// At lookahead 1, forward, the closure holds at each place of the path and the one that follows
+/// it.
 pub fn followed_move_by_move()
     ensures { FollowedMoveByMove }
 {}
@@ -27,12 +31,14 @@ pub fn followed_move_by_move_backward()
     ensures { FollowedMoveByMoveBackward }
 {}
 
-/// What a relation that is stable across two automata relates matches, and paths from the first are followed from the second.
+/// What a relation that is stable across two automata relates matches, and paths from the first are
+/// followed from the second.
 pub fn followed_across()
     ensures { FollowedAcross }
 {}
 
-/// If a relation that is stable across two automata relates the initial states, the second accepts what the first does.
+/// If a relation that is stable across two automata relates the initial states, the second accepts
+/// what the first does.
 pub fn across_includes()
     ensures { AcrossIncludes }
 {}

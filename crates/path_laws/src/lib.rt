@@ -1,4 +1,5 @@
-//! The laws of finite paths, of lassos and of games of looking ahead: each is the contract of a function that does nothing.
+//! The laws of finite paths, of lassos and of games of looking ahead: each is the contract of a
+//! function that does nothing.
 #![tactic(auto)]
 
 mod counting;

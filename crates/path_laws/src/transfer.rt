@@ -7,7 +7,8 @@ pub fn lassos_transfer()
     ensures { LassosTransfer }
 {}
 
-/// An automaton that follows another accepts its words, if its initial state is accepting where the other's is.
+/// An automaton that follows another accepts its words, if its initial state is accepting where the
+/// other's is.
 pub fn words_transfer()
     ensures { WordsTransfer }
 {}

@@ -12,4 +12,6 @@ IsBefore x p q = (x.left < p) ⊎ ((x.left ≡ p) × (x.right < q))
 
 -- Each pair stands before all later ones. So none is there twice.
 abbrev pub AreAscending : List RankedPair → Type 0
-AreAscending pairs = (i j : ℕ) → i < j → j < length pairs → IsBefore (pair_at pairs i) (pair_at pairs j).left (pair_at pairs j).right
+AreAscending pairs =
+    (i j : ℕ) → i < j → j < length pairs
+    → IsBefore (pair_at pairs i) (pair_at pairs j).left (pair_at pairs j).right

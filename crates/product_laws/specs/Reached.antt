@@ -1,4 +1,5 @@
--- Pairs that a word leads to: a state of A, and the state that a deterministic B is then in, or none.
+-- Pairs that a word leads to: a state of A, and the state that a deterministic B is then in, or
+-- none.
 use Rattle.std.specs.Prelude.{◌≡◌, ℕ, ◌⊎◌, Bool, true, false, ◌||◌, List, [], ◌∷◌}
 use Rattle.auto_core.specs.Automaton.{Automaton, Moves, is_accepting}
 use Rattle.auto_core.specs.Run.{Run}
@@ -9,16 +10,18 @@ use Rattle.auto_core.specs.declared.parts.Mode.TheVariants.{Buchi}
 abbrev pub HasNoMove : Automaton → ℕ → ℕ → Type 0
 HasNoMove B q a = (t : ℕ) → Moves B q a t → ⊥
 
--- B goes from q by the letter a to s. Where it has no move it goes to no state, whose number is the number of its
--- states.
+-- B goes from q by the letter a to s. Where it has no move it goes to no state, whose number is the
+-- number of its states.
 abbrev pub GoesTo : Automaton → ℕ → ℕ → ℕ → Type 0
 GoesTo B q a s = Moves B q a s ⊎ ((s ≡ B.states) × HasNoMove B q a)
 
--- B goes from q on the word to s, maybe no state; the flag tells whether a state after the first is accepting.
+-- B goes from q on the word to s, maybe no state; the flag tells whether a state after the first is
+-- accepting.
 abbrev pub Goes : Automaton → ℕ → List ℕ → ℕ → Bool → Type 0
 Goes B q [] s flag = (q ≡ s) × (flag ≡ false)
 Goes B q (a ∷ w) s flag =
-    (next : ℕ) × (later : Bool) × GoesTo B q a next × Goes B next w s later × (flag ≡ (is_accepting B next || later))
+    (next : ℕ) × (later : Bool) × GoesTo B q a next × Goes B next w s later
+    × (flag ≡ (is_accepting B next || later))
 
 -- On the word A runs from p to r and B goes from q to s.
 abbrev pub BothGo : Automaton → Automaton → ℕ → ℕ → List ℕ → ℕ → ℕ → Type 0
@@ -40,7 +43,8 @@ IsBadCycle A B p q v = Run A p v p true × Goes B q v q false
 abbrev pub ReachesGoal : Automaton → ℕ → Type 0
 ReachesGoal A p = (goal : ℕ) × Reaches A p goal × IsGoal A Buchi goal
 
--- Each move leads to a state that reaches an accepting state on a cycle. An automaton that is trimmed is so.
+-- Each move leads to a state that reaches an accepting state on a cycle. An automaton that is
+-- trimmed is so.
 abbrev pub MovesReachGoals : Automaton → Type 0
 MovesReachGoals A = (p a q : ℕ) → Moves A p a q → ReachesGoal A q
 

@@ -1,5 +1,5 @@
-//! The laws of the product of an automaton with a deterministic one: each is the contract of a function that does
-//! nothing.
+//! The laws of the product of an automaton with a deterministic one: each is the contract of a
+//! function that does nothing.
 #![tactic(auto)]
 
 ghost use Rattle.product_laws.specs.Laws.{RankedProductIncludes, CycleSeparates, LostRunSeparates, IncludedHasNoFault};
@@ -21,7 +21,8 @@ pub fn ranked_product_includes()
     ensures { RankedProductIncludes }
 {}
 
-/// A cycle of pairs past an accepting state of the first automaton and none of the second separates them.
+/// A cycle of pairs past an accepting state of the first automaton and none of the second separates
+/// them.
 pub fn cycle_separates()
     ensures { CycleSeparates }
 {}
@@ -36,8 +37,8 @@ pub fn included_has_no_fault()
     ensures { IncludedHasNoFault }
 {}
 
-/// Closed pairs with ranks are a ranked product, if each move of the first automaton leads on to an accepting state
-/// on a cycle.
+/// Closed pairs with ranks are a ranked product, if each move of the first automaton leads on to an
+/// accepting state on a cycle.
 pub fn closed_pairs_are_product()
     ensures { ClosedPairsAreProduct }
 {}

@@ -21,19 +21,25 @@ AreMoreReached A B limit =
 
 -- The pairs of a yes are a ranked product, in order.
 abbrev pub IncludedIsRight : Automaton → Automaton → Product → Type 0
-IncludedIsRight A B answer = (pairs : Vec RankedPair Global) → answer ≡ Product.Included pairs → IsRankedProduct A B pairs.items × AreAscending pairs.items
+IncludedIsRight A B answer =
+    (pairs : Vec RankedPair Global) → answer ≡ Product.Included pairs
+    → IsRankedProduct A B pairs.items × AreAscending pairs.items
 
 -- The pairs of a yes are just those that are reached.
 abbrev pub HasJustReached : Automaton → Automaton → Product → Type 0
-HasJustReached A B answer = (pairs : Vec RankedPair Global) → answer ≡ Product.Included pairs → (p q : ℕ) → HasPair pairs.items p q ↔ IsReachedPair A B p q
+HasJustReached A B answer =
+    (pairs : Vec RankedPair Global) → answer ≡ Product.Included pairs → (p q : ℕ)
+    → HasPair pairs.items p q ↔ IsReachedPair A B p q
 
 -- A yes has at most so many pairs.
 abbrev pub HasAtMost : ℕ → Product → Type 0
-HasAtMost most answer = (pairs : Vec RankedPair Global) → answer ≡ Product.Included pairs → length pairs.items ≤ most
+HasAtMost most answer =
+    (pairs : Vec RankedPair Global) → answer ≡ Product.Included pairs → length pairs.items ≤ most
 
 -- The lasso of a no separates the automata.
 abbrev pub ApartIsRight : Automaton → Automaton → Product → Type 0
-ApartIsRight A B answer = (lasso : Lasso) → answer ≡ Product.Apart lasso → SeparatesLasso A B lasso.prefix lasso.turn
+ApartIsRight A B answer =
+    (lasso : Lasso) → answer ≡ Product.Apart lasso → SeparatesLasso A B lasso.prefix lasso.turn
 
 -- The limit is met only where more pairs are reached.
 abbrev pub LimitIsRight : Automaton → Automaton → ℕ → Product → Type 0

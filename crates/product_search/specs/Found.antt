@@ -29,10 +29,12 @@ Follows A B quiet x a y = Moves A x.0 a y.0 × GoesTo B x.1 a y.1 × IsQuietEnou
 
 -- The pair was found from one with a lesser number.
 abbrev pub IsFoundBy : Automaton → Automaton → Bool → List (ℕ × ℕ) → Step → ℕ → Type 0
-IsFoundBy A B quiet pairs step i = (step.from < i) × Follows A B quiet (pair_at pairs step.from) step.letter (pair_at pairs i)
+IsFoundBy A B quiet pairs step i =
+    (step.from < i) × Follows A B quiet (pair_at pairs step.from) step.letter (pair_at pairs i)
 
 -- Different pairs of states, the right one maybe none, each but the first found from one before it.
-pub record AreFound (A B : Automaton) (quiet : Bool) (pairs : List (ℕ × ℕ)) (steps : List Step) : Type 0 where
+pub record AreFound (A B : Automaton) (quiet : Bool) (pairs : List (ℕ × ℕ))
+    (steps : List Step) : Type 0 where
   pub some : 0 < length pairs
   pub size : length steps ≡ length pairs
   pub left : (i : ℕ) → i < length pairs → (pair_at pairs i).0 < A.states
@@ -51,29 +53,38 @@ IsNoted pairs steps x step new_pairs new_steps =
     ⊎ ((new_pairs ≡ pairs) × (new_steps ≡ steps) × Contains pairs x)
 
 -- The pair that the move leads to is noted, or is passed over.
-abbrev pub Went : Automaton → Bool → ℕ → ℕ → Trans → List (ℕ × ℕ) → List Step → List (ℕ × ℕ) → List Step → Type 0
+abbrev pub Went : Automaton → Bool → ℕ → ℕ → Trans → List (ℕ × ℕ) → List Step → List (ℕ × ℕ)
+    → List Step → Type 0
 Went B quiet from right move pairs steps new_pairs new_steps =
     (s : ℕ)
     × GoesTo B right move.label s
     × (s ≤ B.states)
-    × ((IsQuietEnough B quiet s × IsNoted pairs steps (move.target, s) (record { from = from; letter = move.label }) new_pairs new_steps)
+    × ((IsQuietEnough B quiet s
+    × IsNoted pairs steps (move.target, s) (record { from = from; letter = move.label })
+    new_pairs new_steps)
     ⊎ ((IsQuietEnough B quiet s → ⊥) × (new_pairs ≡ pairs) × (new_steps ≡ steps)))
 
 -- Each step from the pair with this number leads to a pair.
 abbrev pub IsClosedAt : Automaton → Automaton → Bool → List (ℕ × ℕ) → ℕ → Type 0
-IsClosedAt A B quiet pairs i = (a : ℕ) (y : ℕ × ℕ) → Follows A B quiet (pair_at pairs i) a y → Contains pairs y
+IsClosedAt A B quiet pairs i =
+    (a : ℕ) (y : ℕ × ℕ) → Follows A B quiet (pair_at pairs i) a y → Contains pairs y
 
--- The pairs that are found are more. The flag tells whether they are at most `limit`, and then the steps from the one
--- with this number lead to them.
-abbrev pub Expanded : Automaton → Automaton → Bool → ℕ → List (ℕ × ℕ) → ℕ → List (ℕ × ℕ) → List Step → Bool → Type 0
+-- The pairs that are found are more. The flag tells whether they are at most `limit`, and then the
+-- steps from the one with this number lead to them.
+abbrev pub Expanded : Automaton → Automaton → Bool → ℕ → List (ℕ × ℕ) → ℕ → List (ℕ × ℕ) → List Step
+    → Bool → Type 0
 Expanded A B quiet limit old from pairs steps flag =
     AreFound A B quiet pairs steps
     × Grows old pairs
-    × (((flag ≡ true) × (length pairs ≤ limit) × IsClosedAt A B quiet pairs from) ⊎ ((flag ≡ false) × (limit < length pairs)))
+    × (((flag ≡ true) × (length pairs ≤ limit) × IsClosedAt A B quiet pairs from)
+    ⊎ ((flag ≡ false) × (limit < length pairs)))
 
 -- The same for all of them.
-abbrev pub AllExpanded : Automaton → Automaton → Bool → ℕ → List (ℕ × ℕ) → List (ℕ × ℕ) → List Step → Bool → Type 0
+abbrev pub AllExpanded : Automaton → Automaton → Bool → ℕ → List (ℕ × ℕ) → List (ℕ × ℕ) → List Step
+    → Bool → Type 0
 AllExpanded A B quiet limit old pairs steps flag =
     AreFound A B quiet pairs steps
     × Grows old pairs
-    × (((flag ≡ true) × (length pairs ≤ limit) × ((i : ℕ) → i < length pairs → IsClosedAt A B quiet pairs i)) ⊎ ((flag ≡ false) × (limit < length pairs)))
+    × (((flag ≡ true) × (length pairs ≤ limit)
+    × ((i : ℕ) → i < length pairs → IsClosedAt A B quiet pairs i))
+    ⊎ ((flag ≡ false) × (limit < length pairs)))

@@ -6,4 +6,5 @@ use Rattle.product_search.specs.Found.{pair_at}
 
 -- The pair with this number, with its rank.
 abbrev pub with_rank : List (ℕ × ℕ) → List ℕ → ℕ → RankedPair
-with_rank pairs ranks i = record { left = (pair_at pairs i).0; right = (pair_at pairs i).1; rank = at ranks i }
+with_rank pairs ranks i =
+    record { left = (pair_at pairs i).0; right = (pair_at pairs i).1; rank = at ranks i }

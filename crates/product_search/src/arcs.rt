@@ -34,8 +34,11 @@ impl Arcs {
     ) -> Result<(), Memory>
         requires state { right ≤ second.now.states }
         requires few { length pairs.now.keys < 2 ^ 32 }
-        requires there { (s : ℕ) → GoesTo second.now right step.label s → is_accepting second.now s ≡ false → Contains pairs.now.keys (step.target, s) }
-        ensures arc { OnOk result (IsPushed second.now pairs.now.keys right step self.old.targets.items self.old.letters.items self.new.targets.items self.new.letters.items) }
+        requires there { (s : ℕ) → GoesTo second.now right step.label s
+            → is_accepting second.now s ≡ false → Contains pairs.now.keys (step.target, s) }
+        ensures arc { OnOk result
+            (IsPushed second.now pairs.now.keys right step self.old.targets.items
+            self.old.letters.items self.new.targets.items self.new.letters.items) }
         ensures starts { self.new.starts.items ≡ self.old.starts.items }
     {
         let target = goes_to(second, right, step.label);
@@ -59,8 +62,11 @@ impl Arcs {
         requires deterministic { IsDeterministic second.now }
         requires pairs { ArePairs first.now second.now pairs.now.keys }
         requires within { from < length pairs.now.keys }
-        requires arcs { AreArcs first.now second.now pairs.now.keys from self.old.starts.items self.old.targets.items self.old.letters.items }
-        ensures { OnOk result (AreArcs first.now second.now pairs.now.keys (from + 1) self.new.starts.items self.new.targets.items self.new.letters.items) }
+        requires arcs { AreArcs first.now second.now pairs.now.keys from self.old.starts.items
+            self.old.targets.items self.old.letters.items }
+        ensures { OnOk result
+            (AreArcs first.now second.now pairs.now.keys (from + 1) self.new.starts.items
+            self.new.targets.items self.new.letters.items) }
     {
         let pair = pair_of(pairs, from);
         let span = first.outgoing(pair.0);
@@ -82,7 +88,10 @@ impl Arcs {
         requires deterministic { IsDeterministic second.now }
         requires pairs { ArePairs first.now second.now pairs.now.keys }
         requires count { count ≡ length pairs.now.keys }
-        ensures { IfOk result (λ arcs. AreArcs first.now second.now pairs.now.keys count arcs.starts.items arcs.targets.items arcs.letters.items) }
+        ensures { IfOk
+            result (λ arcs.
+            AreArcs first.now second.now pairs.now.keys count arcs.starts.items arcs.targets.items
+            arcs.letters.items) }
     {
         let mut starts = Vec::new(alloc);
         starts.push(0)?;

@@ -1,5 +1,5 @@
-//! A cycle of pairs past an accepting state of the first automaton and none of the second, and the lasso that it
-//! makes.
+//! A cycle of pairs past an accepting state of the first automaton and none of the second, and the
+//! lasso that it makes.
 
 ghost use Rattle.std.specs.Prelude.{◌≡◌, ◌<◌, ℕ, true, false, length, reverse, IfOk, IfSome, IfNone};
 ghost use Rattle.auto_core.specs.Automaton.{IsAutomaton, IsAccepting};
@@ -41,10 +41,15 @@ fn bad_move_from(
     requires graph { IsGraph arcs.now.starts.items arcs.now.targets.items (length pairs.now.keys) }
     requires letters { length arcs.now.letters.items ≡ length arcs.now.targets.items }
     requires numbers { length numbers.now ≡ length pairs.now.keys }
-    requires left { (i : ℕ) → i < length pairs.now.keys → (pair_at pairs.now.keys i).0 < first.now.states }
+    requires left { (i : ℕ) → i < length pairs.now.keys
+        → (pair_at pairs.now.keys i).0 < first.now.states }
     requires from { from < length pairs.now.keys }
-    ensures some { IfSome result (IsBadMove first.now pairs.now.keys arcs.now.starts.items arcs.now.targets.items arcs.now.letters.items numbers.now) }
-    ensures none { IfNone result (HasNoBadArc first.now pairs.now.keys arcs.now.starts.items arcs.now.targets.items numbers.now from) }
+    ensures some { IfSome result
+        (IsBadMove first.now pairs.now.keys arcs.now.starts.items arcs.now.targets.items
+        arcs.now.letters.items numbers.now) }
+    ensures none { IfNone result
+        (HasNoBadArc first.now pairs.now.keys arcs.now.starts.items arcs.now.targets.items
+        numbers.now from) }
 {
     let starts = arcs.starts.as_slice();
     let targets = arcs.targets.as_slice();
@@ -76,9 +81,15 @@ pub(crate) fn bad_move(
     requires graph { IsGraph arcs.now.starts.items arcs.now.targets.items (length pairs.now.keys) }
     requires letters { length arcs.now.letters.items ≡ length arcs.now.targets.items }
     requires numbers { length numbers.now ≡ length pairs.now.keys }
-    requires left { (i : ℕ) → i < length pairs.now.keys → (pair_at pairs.now.keys i).0 < first.now.states }
-    ensures some { IfSome result (IsBadMove first.now pairs.now.keys arcs.now.starts.items arcs.now.targets.items arcs.now.letters.items numbers.now) }
-    ensures none { IfNone result ((v : ℕ) → v < length pairs.now.keys → HasNoBadArc first.now pairs.now.keys arcs.now.starts.items arcs.now.targets.items numbers.now v) }
+    requires left { (i : ℕ) → i < length pairs.now.keys
+        → (pair_at pairs.now.keys i).0 < first.now.states }
+    ensures some { IfSome result
+        (IsBadMove first.now pairs.now.keys arcs.now.starts.items arcs.now.targets.items
+        arcs.now.letters.items numbers.now) }
+    ensures none { IfNone result
+        ((v : ℕ) → v < length pairs.now.keys
+        → HasNoBadArc first.now pairs.now.keys arcs.now.starts.items arcs.now.targets.items
+        numbers.now v) }
 {
     for from in 0..count {
         match bad_move_from(first, pairs, arcs, numbers, from) {
@@ -140,10 +151,14 @@ fn cycle_of(
     requires pairs { ArePairs first.now second.now pairs.now.keys }
     requires from { bad.from < length pairs.now.keys }
     requires to { bad.to < length pairs.now.keys }
-    requires step { Follows first.now second.now true (pair_at pairs.now.keys bad.from) bad.letter (pair_at pairs.now.keys bad.to) }
+    requires step { Follows first.now second.now true (pair_at pairs.now.keys bad.from) bad.letter
+        (pair_at pairs.now.keys bad.to) }
     requires back { Close (QuietStep first.now second.now pairs.now.keys) bad.to bad.from }
     requires accepts { IsAccepting first.now (pair_at pairs.now.keys bad.to).0 }
-    ensures { IfOk result (λ word. IsBadCycle first.now second.now (pair_at pairs.now.keys bad.to).0 (pair_at pairs.now.keys bad.to).1 word) }
+    ensures { IfOk
+        result (λ word.
+        IsBadCycle first.now second.now (pair_at pairs.now.keys bad.to).0
+        (pair_at pairs.now.keys bad.to).1 word) }
 {
     let mut ways = Found::new(alloc, pair_of(pairs, bad.to))?;
     if !ways.expand_all(first, second, true, 0xffff_fffe)? {
@@ -165,12 +180,14 @@ pub(crate) fn lasso_of(
 ) -> Result<Lasso, Memory>
     requires valid { IsAutomaton second.now }
     requires deterministic { IsDeterministic second.now }
-    requires found { AreFound first.now second.now false found.now.pairs.keys found.now.steps.items }
+    requires found { AreFound first.now second.now false found.now.pairs.keys
+        found.now.steps.items }
     requires initial { pair_at found.now.pairs.keys 0 ≡ (first.now.initial, second.now.initial) }
     requires pairs { ArePairs first.now second.now found.now.pairs.keys }
     requires from { bad.from < length found.now.pairs.keys }
     requires to { bad.to < length found.now.pairs.keys }
-    requires step { Follows first.now second.now true (pair_at found.now.pairs.keys bad.from) bad.letter (pair_at found.now.pairs.keys bad.to) }
+    requires step { Follows first.now second.now true (pair_at found.now.pairs.keys bad.from)
+        bad.letter (pair_at found.now.pairs.keys bad.to) }
     requires back { Close (QuietStep first.now second.now found.now.pairs.keys) bad.to bad.from }
     requires accepts { IsAccepting first.now (pair_at found.now.pairs.keys bad.to).0 }
     ensures { IfOk result (λ lasso. SeparatesLasso first.now second.now lasso.prefix lasso.turn) }

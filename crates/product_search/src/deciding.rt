@@ -19,7 +19,8 @@ use strong_components::components_of;
 /// What the product of two automata tells.
 #[derive(Debug, Drop)]
 pub enum Product {
-    /// The second automaton accepts each lasso that the first accepts: the pairs are a ranked product.
+    /// The second automaton accepts each lasso that the first accepts: the pairs are a ranked
+    /// product.
     Included(Vec<RankedPair>),
     /// The first automaton accepts the lasso and the second does not.
     Apart(Lasso),
@@ -42,9 +43,11 @@ fn answer(alloc: Global, first: &Auto, second: &Auto, found: &Found) -> Result<P
     requires valid { IsAutomaton second.now }
     requires deterministic { IsDeterministic second.now }
     requires trimmed { MovesReachGoals first.now }
-    requires found { AreFound first.now second.now false found.now.pairs.keys found.now.steps.items }
+    requires found { AreFound first.now second.now false found.now.pairs.keys
+        found.now.steps.items }
     requires initial { pair_at found.now.pairs.keys 0 ≡ (first.now.initial, second.now.initial) }
-    requires closed { (i : ℕ) → i < length found.now.pairs.keys → IsClosedAt first.now second.now false found.now.pairs.keys i }
+    requires closed { (i : ℕ) → i < length found.now.pairs.keys
+        → IsClosedAt first.now second.now false found.now.pairs.keys i }
     ensures included { IfOk result (IncludedIsRight first.now second.now) }
     ensures reached { IfOk result (HasJustReached first.now second.now) }
     ensures few { IfOk result (HasAtMost (length found.now.pairs.keys)) }
@@ -60,9 +63,9 @@ fn answer(alloc: Global, first: &Auto, second: &Auto, found: &Found) -> Result<P
     }
 }
 
-/// Decides whether the second automaton, which is deterministic, accepts each lasso that the first accepts, whose
-/// moves lead to states that reach an accepting one on a cycle. At most `limit` pairs are taken; 2^32 - 1 and more are
-/// refused as memory.
+/// Decides whether the second automaton, which is deterministic, accepts each lasso that the first
+/// accepts, whose moves lead to states that reach an accepting one on a cycle. A yes has at most
+/// `limit` pairs, and `Limit` says that more are reached; 2^32 - 1 and more are refused as memory.
 pub fn decide(alloc: Global, first: &Auto, second: &Auto, limit: u32) -> Result<Product, Memory>
     requires deterministic { IsDeterministic second.now }
     requires trimmed { MovesReachGoals first.now }

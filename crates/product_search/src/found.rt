@@ -43,7 +43,9 @@ impl Found {
 
     /// Notes the pair, unless it is there, and how it was found.
     fn note(&mut self, pair: (u32, u32), step: Step) -> Result<(), Memory>
-        ensures { OnOk result (IsNoted self.old.pairs.keys self.old.steps.items pair step self.new.pairs.keys self.new.steps.items) }
+        ensures { OnOk result
+            (IsNoted self.old.pairs.keys self.old.steps.items pair step self.new.pairs.keys
+            self.new.steps.items) }
     {
         if add(&mut self.pairs, pair)? {
             self.steps.push(step)?;
@@ -61,7 +63,9 @@ impl Found {
         step: Trans,
     ) -> Result<(), Memory>
         requires { right ≤ second.now.states }
-        ensures { OnOk result (Went second.now quiet from right step self.old.pairs.keys self.old.steps.items self.new.pairs.keys self.new.steps.items) }
+        ensures { OnOk result
+            (Went second.now quiet from right step self.old.pairs.keys self.old.steps.items
+            self.new.pairs.keys self.new.steps.items) }
     {
         let target = goes_to(second, right, step.label);
         if quiet && accepts(second, target) {
@@ -87,10 +91,13 @@ impl Found {
         limit: u32,
     ) -> Result<bool, Memory>
         requires deterministic { IsDeterministic second.now }
-        requires found { AreFound first.now second.now quiet self.old.pairs.keys self.old.steps.items }
+        requires found { AreFound first.now second.now quiet self.old.pairs.keys
+            self.old.steps.items }
         requires within { from < length self.old.pairs.keys }
         requires few { length self.old.pairs.keys ≤ limit }
-        ensures { IfOk result (Expanded first.now second.now quiet limit self.old.pairs.keys from self.new.pairs.keys self.new.steps.items) }
+        ensures { IfOk result
+            (Expanded first.now second.now quiet limit self.old.pairs.keys from self.new.pairs.keys
+            self.new.steps.items) }
     {
         let pair = pair_of(&self.pairs, from);
         let span = first.outgoing(pair.0);
@@ -112,8 +119,11 @@ impl Found {
         limit: u32,
     ) -> Result<bool, Memory>
         requires deterministic { IsDeterministic second.now }
-        requires found { AreFound first.now second.now quiet self.old.pairs.keys self.old.steps.items }
-        ensures { IfOk result (AllExpanded first.now second.now quiet limit self.old.pairs.keys self.new.pairs.keys self.new.steps.items) }
+        requires found { AreFound first.now second.now quiet self.old.pairs.keys
+            self.old.steps.items }
+        ensures { IfOk result
+            (AllExpanded first.now second.now quiet limit self.old.pairs.keys self.new.pairs.keys
+            self.new.steps.items) }
     {
         if self.pairs.len() > limit as usize {
             return Ok(false);

@@ -2,7 +2,8 @@
 
 ghost use Rattle.product_search.specs.Laws.{TrimmedReachGoals};
 
-/// The moves of a trimmed automaton lead to states that reach an accepting one on a cycle, as `decide` asks.
+/// The moves of a trimmed automaton lead to states that reach an accepting one on a cycle, as
+/// `decide` asks.
 pub fn trimmed_reach_goals()
     ensures { TrimmedReachGoals }
 {}

@@ -22,7 +22,10 @@ fn with_ranks(
     requires count { count ≡ length pairs.now.keys }
     requires ranks { length ranks.now ≡ length pairs.now.keys }
     ensures size { IfOk result (λ ranked. length ranked.items ≡ length pairs.now.keys) }
-    ensures each { IfOk result (λ ranked. (i : ℕ) → i < length pairs.now.keys → ranked_at ranked.items i ≡ with_rank pairs.now.keys ranks.now i) }
+    ensures each { IfOk
+        result (λ ranked.
+        (i : ℕ) → i < length pairs.now.keys
+        → ranked_at ranked.items i ≡ with_rank pairs.now.keys ranks.now i) }
 {
     let mut ranked = Vec::new(alloc);
     for number in 0..count {
@@ -45,11 +48,18 @@ pub(crate) fn ranked_pairs(
 ) -> Result<Vec<RankedPair>, Memory>
     requires count { count ≡ length pairs.now.keys }
     requires ranks { length ranks.now ≡ length pairs.now.keys }
-    requires different { (i j : ℕ) → i < j → j < length pairs.now.keys → pair_at pairs.now.keys i ≡ pair_at pairs.now.keys j → ⊥ }
+    requires different { (i j : ℕ) → i < j → j < length pairs.now.keys
+        → pair_at pairs.now.keys i ≡ pair_at pairs.now.keys j → ⊥ }
     ensures size { IfOk result (λ ranked. length ranked.items ≡ length pairs.now.keys) }
     ensures ascending { IfOk result (λ ranked. AreAscending ranked.items) }
-    ensures all { IfOk result (λ ranked. (i : ℕ) → i < length pairs.now.keys → Contains ranked.items (with_rank pairs.now.keys ranks.now i)) }
-    ensures only { IfOk result (λ ranked. (x : RankedPair) → Contains ranked.items x → (i : ℕ) × (i < length pairs.now.keys) × (x ≡ with_rank pairs.now.keys ranks.now i)) }
+    ensures all { IfOk
+        result (λ ranked.
+        (i : ℕ) → i < length pairs.now.keys
+        → Contains ranked.items (with_rank pairs.now.keys ranks.now i)) }
+    ensures only { IfOk
+        result (λ ranked.
+        (x : RankedPair) → Contains ranked.items x
+        → (i : ℕ) × (i < length pairs.now.keys) × (x ≡ with_rank pairs.now.keys ranks.now i)) }
 {
     let mut ranked = with_ranks(alloc, pairs, ranks, count)?;
     ranked.sort()?;

@@ -10,7 +10,8 @@ use std::alloc::Global;
 use std::test::Fail;
 use useful_states::trim;
 
-/// The answer for the automaton without its useless states; none if the second automaton is not deterministic.
+/// The answer for the automaton without its useless states; none if the second automaton is not
+/// deterministic.
 fn decided(alloc: Global, whole: &Auto, second: &Auto) -> Result<Option<Product>, Memory> {
     if !is_deterministic(second) {
         return Ok(None);

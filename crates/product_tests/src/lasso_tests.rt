@@ -1,5 +1,5 @@
-//! Random automata over three letters of two classes: a lasso of classes is read where the automaton over classes
-//! accepts it.
+//! Random automata over three letters of two classes: a lasso of classes is read where the
+//! automaton over classes accepts it.
 
 use crate::drawn::{built, next, random};
 use auto_core::{Auto, Lasso, List, Memory, Trans};

@@ -1,4 +1,5 @@
-//! Tests of the decision by the product, of the search for useful states, and of lassos that are read.
+//! Tests of the decision by the product, of the search for useful states, and of lassos that are
+//! read.
 #![tactic(auto)]
 
 #[cfg(test)]

@@ -26,15 +26,19 @@ pub record IsTransition (A : Automaton) (p a q u : ℕ) : Type 0 where
 abbrev pub HasNoTransition : Automaton → ℕ → ℕ → ℕ → Type 0
 HasNoTransition A p a q = (u : ℕ) → IsTransition A p a q u → ⊥
 
--- The numbers from `begin` up to `end` are just those of the transitions out of p with the letter a whose targets are q or more.
+-- The numbers from `begin` up to `end` are just those of the transitions out of p with the letter a
+-- whose targets are q or more.
 pub record AreSuccessorsFrom (A : Automaton) (p a q begin end : ℕ) : Type 0 where
   pub is_range : begin ≤ end
   pub within : end ≤ length A.transitions
-  pub inside : (u : ℕ) → begin ≤ u → u < end → ((trans_at A u).source ≡ p) × ((trans_at A u).label ≡ a) × (q ≤ (trans_at A u).target)
-  pub all : (u : ℕ) → u < length A.transitions → (trans_at A u).source ≡ p → (trans_at A u).label ≡ a → q ≤ (trans_at A u).target → (begin ≤ u) × (u < end)
+  pub inside : (u : ℕ) → begin ≤ u → u < end
+      → ((trans_at A u).source ≡ p) × ((trans_at A u).label ≡ a) × (q ≤ (trans_at A u).target)
+  pub all : (u : ℕ) → u < length A.transitions → (trans_at A u).source ≡ p
+      → (trans_at A u).label ≡ a → q ≤ (trans_at A u).target → (begin ≤ u) × (u < end)
 
 -- u is the least transition that is better than t.
-pub record IsLeastBetter (A : Automaton) (n : ℕ) (back ahead : ℕ → ℕ → Type 0) (t u : ℕ) : Type 0 where
+pub record IsLeastBetter (A : Automaton) (n : ℕ) (back ahead : ℕ → ℕ → Type 0)
+    (t u : ℕ) : Type 0 where
   pub better : IsBetterAt A n back ahead t u
   pub least : (v : ℕ) → IsBetterAt A n back ahead t v → u ≤ v
 
@@ -42,8 +46,10 @@ pub record IsLeastBetter (A : Automaton) (n : ℕ) (back ahead : ℕ → ℕ →
 abbrev pub numbers_of_gone : List Gone → List ℕ
 numbers_of_gone gone = map (λ (g : Gone). g.trans) gone
 
--- The list has, ascending, just the transitions that have a better one, each with the least better one.
-pub record AreLeastBetter (A : Automaton) (n : ℕ) (back ahead : ℕ → ℕ → Type 0) (gone : List Gone) : Type 0 where
+-- The list has, ascending, just the transitions that have a better one, each with the least better
+-- one.
+pub record AreLeastBetter (A : Automaton) (n : ℕ) (back ahead : ℕ → ℕ → Type 0)
+    (gone : List Gone) : Type 0 where
   pub ascending : IsStrictlyIncreasing (numbers_of_gone gone)
   pub each : All (λ (g : Gone). IsLeastBetter A n back ahead g.trans g.by) gone
   pub all : (t : ℕ) → HasBetter A n back ahead t → Contains (numbers_of_gone gone) t

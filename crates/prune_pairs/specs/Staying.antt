@@ -10,4 +10,5 @@ stays_in gone t = not (list_any (λ x. x == t) gone)
 
 -- The transitions that stay, in order.
 abbrev pub staying_transitions : Automaton → List ℕ → List Trans
-staying_transitions A gone = map (trans_at A) (filter (stays_in gone) (range_with_len 0 (length A.transitions)))
+staying_transitions A gone =
+    map (trans_at A) (filter (stays_in gone) (range_with_len 0 (length A.transitions)))

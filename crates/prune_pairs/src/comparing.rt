@@ -46,7 +46,8 @@ fn at_target(pair: u32, ahead: &Rel, p: u32, q: u32) -> bool
     }
 }
 
-/// Tells whether the pair of relations with this number relates both ends of the first transition to those of the second.
+/// Tells whether the pair of relations with this number relates both ends of the first transition
+/// to those of the second.
 fn has_better_ends(pair: u32, back: &Rel, ahead: &Rel, old: Trans, new: Trans) -> bool
     requires pair_from { 1 ≤ pair }
     requires pair_upto { pair ≤ 4 }
@@ -54,13 +55,15 @@ fn has_better_ends(pair: u32, back: &Rel, ahead: &Rel, old: Trans, new: Trans) -
     requires new_source { ¬ (pair ≡ 1) → new.source < back.now.size }
     requires old_target { ¬ (pair ≡ 2) → old.target < ahead.now.size }
     requires new_target { ¬ (pair ≡ 2) → new.target < ahead.now.size }
-    ensures { IsTrue result ↔ (AtSource pair (Holds back.now.pairs) old.source new.source × AtTarget pair (Holds ahead.now.pairs) old.target new.target) }
+    ensures { IsTrue result
+        ↔ (AtSource pair (Holds back.now.pairs) old.source new.source
+        × AtTarget pair (Holds ahead.now.pairs) old.target new.target) }
 {
     at_source(pair, back, old.source, new.source) && at_target(pair, ahead, old.target, new.target)
 }
 
-/// Tells whether the transition `by` is better than the transition `t`, by the approved pair with this number, from 1 to 4. A
-/// relation that the pair has no use for is passed over.
+/// Tells whether the transition `by` is better than the transition `t`, by the approved pair with
+/// this number, from 1 to 4. A relation that the pair has no use for is passed over.
 pub fn better(automaton: &Auto, pair: u32, back: &Rel, ahead: &Rel, t: u32, by: u32) -> bool
     requires pair_from { 1 ≤ pair }
     requires pair_upto { pair ≤ 4 }
@@ -68,7 +71,8 @@ pub fn better(automaton: &Auto, pair: u32, back: &Rel, ahead: &Rel, t: u32, by: 
     requires ahead { ¬ (pair ≡ 2) → ahead.now.size ≡ automaton.now.states }
     requires t { t < length automaton.now.transitions }
     requires by { by < length automaton.now.transitions }
-    ensures { IsTrue result ↔ IsBetterAt automaton.now pair (Holds back.now.pairs) (Holds ahead.now.pairs) t by }
+    ensures { IsTrue result
+        ↔ IsBetterAt automaton.now pair (Holds back.now.pairs) (Holds ahead.now.pairs) t by }
 {
     let old = automaton.transitions()[t as usize];
     let new = automaton.transitions()[by as usize];

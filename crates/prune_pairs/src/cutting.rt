@@ -35,7 +35,9 @@ fn staying(alloc: Global, automaton: &Auto, gone: &[u32]) -> Result<Vec<Trans>, 
 
 /// The accepting states, ascending.
 pub fn accepting_states(alloc: Global, automaton: &Auto) -> Result<Vec<u32>, Memory>
-    ensures { IfOk result (λ v. v.items ≡ filter (is_accepting automaton.now) (range_with_len 0 automaton.now.states)) }
+    ensures { IfOk
+        result (λ v.
+        v.items ≡ filter (is_accepting automaton.now) (range_with_len 0 automaton.now.states)) }
 {
     let mut made = Vec::new(alloc);
     for state in 0..automaton.states() {

@@ -26,8 +26,12 @@ fn first_within(
     requires ahead { ¬ (pair ≡ 2) → ahead.now.size ≡ automaton.now.states }
     requires t { t < length automaton.now.transitions }
     requires within { span.end ≤ length automaton.now.transitions }
-    ensures some { IfSome result (IsLeastOf (λ u. (span.begin ≤ u) × (u < span.end)) (IsBetterAt automaton.now pair (Holds back.now.pairs) (Holds ahead.now.pairs) t)) }
-    ensures none { IfNone result (HasNone (λ u. (span.begin ≤ u) × (u < span.end)) (IsBetterAt automaton.now pair (Holds back.now.pairs) (Holds ahead.now.pairs) t)) }
+    ensures some { IfSome result
+        (IsLeastOf (λ u. (span.begin ≤ u) × (u < span.end))
+        (IsBetterAt automaton.now pair (Holds back.now.pairs) (Holds ahead.now.pairs) t)) }
+    ensures none { IfNone result
+        (HasNone (λ u. (span.begin ≤ u) × (u < span.end))
+        (IsBetterAt automaton.now pair (Holds back.now.pairs) (Holds ahead.now.pairs) t)) }
 {
     for by in span.begin..span.end {
         if better(automaton, pair, back, ahead, t, by) {
@@ -37,8 +41,8 @@ fn first_within(
     None
 }
 
-/// The range of the transitions out of the state with the label whose targets are `target` or more: among the successors by a label the
-/// targets ascend.
+/// The range of the transitions out of the state with the label whose targets are `target` or more:
+/// among the successors by a label the targets ascend.
 fn successors_from(automaton: &Auto, source: u32, label: u32, target: u32) -> Span
     requires { source < automaton.now.states }
     ensures range { AreSuccessorsFrom automaton.now source label target result.begin result.end }
@@ -70,7 +74,8 @@ fn transition_of(automaton: &Auto, source: u32, label: u32, target: u32) -> Opti
     }
 }
 
-/// The transition out of the state that is better than `t` by pair 2. There is at most one: it has the label and the target of `t`.
+/// The transition out of the state that is better than `t` by pair 2. There is at most one: it has
+/// the label and the target of `t`.
 fn first_to_same_target(
     automaton: &Auto,
     back: &Rel,
@@ -81,8 +86,12 @@ fn first_to_same_target(
     requires back { back.now.size ≡ automaton.now.states }
     requires t { t < length automaton.now.transitions }
     requires source { source < automaton.now.states }
-    ensures some { IfSome result (IsLeastOf (λ u. (trans_at automaton.now u).source ≡ source) (IsBetterAt automaton.now 2 (Holds back.now.pairs) (Holds ahead.now.pairs) t)) }
-    ensures none { IfNone result (HasNone (λ u. (trans_at automaton.now u).source ≡ source) (IsBetterAt automaton.now 2 (Holds back.now.pairs) (Holds ahead.now.pairs) t)) }
+    ensures some { IfSome result
+        (IsLeastOf (λ u. (trans_at automaton.now u).source ≡ source)
+        (IsBetterAt automaton.now 2 (Holds back.now.pairs) (Holds ahead.now.pairs) t)) }
+    ensures none { IfNone result
+        (HasNone (λ u. (trans_at automaton.now u).source ≡ source)
+        (IsBetterAt automaton.now 2 (Holds back.now.pairs) (Holds ahead.now.pairs) t)) }
 {
     let step = automaton.transitions()[t as usize];
     let Some(by) = transition_of(automaton, source, step.label, step.target) else {
@@ -95,7 +104,8 @@ fn first_to_same_target(
     }
 }
 
-/// The least transition out of the state that is better than `t`: among those with the label of `t`.
+/// The least transition out of the state that is better than `t`: among those with the label of
+/// `t`.
 fn first_successor(
     automaton: &Auto,
     pair: u32,
@@ -110,8 +120,12 @@ fn first_successor(
     requires ahead { ¬ (pair ≡ 2) → ahead.now.size ≡ automaton.now.states }
     requires t { t < length automaton.now.transitions }
     requires source { source < automaton.now.states }
-    ensures some { IfSome result (IsLeastOf (λ u. (trans_at automaton.now u).source ≡ source) (IsBetterAt automaton.now pair (Holds back.now.pairs) (Holds ahead.now.pairs) t)) }
-    ensures none { IfNone result (HasNone (λ u. (trans_at automaton.now u).source ≡ source) (IsBetterAt automaton.now pair (Holds back.now.pairs) (Holds ahead.now.pairs) t)) }
+    ensures some { IfSome result
+        (IsLeastOf (λ u. (trans_at automaton.now u).source ≡ source)
+        (IsBetterAt automaton.now pair (Holds back.now.pairs) (Holds ahead.now.pairs) t)) }
+    ensures none { IfNone result
+        (HasNone (λ u. (trans_at automaton.now u).source ≡ source)
+        (IsBetterAt automaton.now pair (Holds back.now.pairs) (Holds ahead.now.pairs) t)) }
 {
     let label = automaton.transitions()[t as usize].label;
     let span = automaton.successors(source, label);
@@ -133,8 +147,12 @@ fn first_out_of(
     requires ahead { ¬ (pair ≡ 2) → ahead.now.size ≡ automaton.now.states }
     requires t { t < length automaton.now.transitions }
     requires source { source < automaton.now.states }
-    ensures some { IfSome result (IsLeastOf (λ u. (trans_at automaton.now u).source ≡ source) (IsBetterAt automaton.now pair (Holds back.now.pairs) (Holds ahead.now.pairs) t)) }
-    ensures none { IfNone result (HasNone (λ u. (trans_at automaton.now u).source ≡ source) (IsBetterAt automaton.now pair (Holds back.now.pairs) (Holds ahead.now.pairs) t)) }
+    ensures some { IfSome result
+        (IsLeastOf (λ u. (trans_at automaton.now u).source ≡ source)
+        (IsBetterAt automaton.now pair (Holds back.now.pairs) (Holds ahead.now.pairs) t)) }
+    ensures none { IfNone result
+        (HasNone (λ u. (trans_at automaton.now u).source ≡ source)
+        (IsBetterAt automaton.now pair (Holds back.now.pairs) (Holds ahead.now.pairs) t)) }
 {
     match pair {
         2 => first_to_same_target(automaton, back, ahead, t, source),
@@ -142,7 +160,8 @@ fn first_out_of(
     }
 }
 
-/// The same for pairs 2 to 4: only a state that the pair relates to the source of `t` has such transitions.
+/// The same for pairs 2 to 4: only a state that the pair relates to the source of `t` has such
+/// transitions.
 fn first_out_of_related(
     automaton: &Auto,
     pair: u32,
@@ -157,8 +176,12 @@ fn first_out_of_related(
     requires ahead { ¬ (pair ≡ 2) → ahead.now.size ≡ automaton.now.states }
     requires t { t < length automaton.now.transitions }
     requires source { source < automaton.now.states }
-    ensures some { IfSome result (IsLeastOf (λ u. (trans_at automaton.now u).source ≡ source) (IsBetterAt automaton.now pair (Holds back.now.pairs) (Holds ahead.now.pairs) t)) }
-    ensures none { IfNone result (HasNone (λ u. (trans_at automaton.now u).source ≡ source) (IsBetterAt automaton.now pair (Holds back.now.pairs) (Holds ahead.now.pairs) t)) }
+    ensures some { IfSome result
+        (IsLeastOf (λ u. (trans_at automaton.now u).source ≡ source)
+        (IsBetterAt automaton.now pair (Holds back.now.pairs) (Holds ahead.now.pairs) t)) }
+    ensures none { IfNone result
+        (HasNone (λ u. (trans_at automaton.now u).source ≡ source)
+        (IsBetterAt automaton.now pair (Holds back.now.pairs) (Holds ahead.now.pairs) t)) }
 {
     let from = automaton.transitions()[t as usize].source;
     if at_source(pair, back, from, source) {
@@ -168,16 +191,18 @@ fn first_out_of_related(
     }
 }
 
-/// The least transition that is better than `t`, for pairs 2 to 4: out of the states that the row of the source of `t` holds, in order, since
-/// transitions are sorted by source.
+/// The least transition that is better than `t`, for pairs 2 to 4: out of the states that the row
+/// of the source of `t` holds, in order, since transitions are sorted by source.
 fn first_by_source(automaton: &Auto, pair: u32, back: &Rel, ahead: &Rel, t: u32) -> Option<u32>
     requires pair_from { 2 ≤ pair }
     requires pair_upto { pair ≤ 4 }
     requires back { back.now.size ≡ automaton.now.states }
     requires ahead { ¬ (pair ≡ 2) → ahead.now.size ≡ automaton.now.states }
     requires t { t < length automaton.now.transitions }
-    ensures some { IfSome result (IsLeastBetter automaton.now pair (Holds back.now.pairs) (Holds ahead.now.pairs) t) }
-    ensures none { IfNone result (HasBetter automaton.now pair (Holds back.now.pairs) (Holds ahead.now.pairs) t → ⊥) }
+    ensures some { IfSome result
+        (IsLeastBetter automaton.now pair (Holds back.now.pairs) (Holds ahead.now.pairs) t) }
+    ensures none { IfNone result
+        (HasBetter automaton.now pair (Holds back.now.pairs) (Holds ahead.now.pairs) t → ⊥) }
 {
     let row = back.row(automaton.transitions()[t as usize].source);
     let mut at = 0;
@@ -195,8 +220,10 @@ fn first_by_source(automaton: &Auto, pair: u32, back: &Rel, ahead: &Rel, t: u32)
 fn first_beside(automaton: &Auto, back: &Rel, ahead: &Rel, t: u32) -> Option<u32>
     requires ahead { ahead.now.size ≡ automaton.now.states }
     requires t { t < length automaton.now.transitions }
-    ensures some { IfSome result (IsLeastBetter automaton.now 1 (Holds back.now.pairs) (Holds ahead.now.pairs) t) }
-    ensures none { IfNone result (HasBetter automaton.now 1 (Holds back.now.pairs) (Holds ahead.now.pairs) t → ⊥) }
+    ensures some { IfSome result
+        (IsLeastBetter automaton.now 1 (Holds back.now.pairs) (Holds ahead.now.pairs) t) }
+    ensures none { IfNone result
+        (HasBetter automaton.now 1 (Holds back.now.pairs) (Holds ahead.now.pairs) t → ⊥) }
 {
     let source = automaton.transitions()[t as usize].source;
     first_out_of(automaton, 1, back, ahead, t, source)
@@ -209,8 +236,10 @@ pub fn first_better(automaton: &Auto, pair: u32, back: &Rel, ahead: &Rel, t: u32
     requires back { ¬ (pair ≡ 1) → back.now.size ≡ automaton.now.states }
     requires ahead { ¬ (pair ≡ 2) → ahead.now.size ≡ automaton.now.states }
     requires t { t < length automaton.now.transitions }
-    ensures some { IfSome result (IsLeastBetter automaton.now pair (Holds back.now.pairs) (Holds ahead.now.pairs) t) }
-    ensures none { IfNone result (HasBetter automaton.now pair (Holds back.now.pairs) (Holds ahead.now.pairs) t → ⊥) }
+    ensures some { IfSome result
+        (IsLeastBetter automaton.now pair (Holds back.now.pairs) (Holds ahead.now.pairs) t) }
+    ensures none { IfNone result
+        (HasBetter automaton.now pair (Holds back.now.pairs) (Holds ahead.now.pairs) t → ⊥) }
 {
     match pair {
         1 => first_beside(automaton, back, ahead, t),

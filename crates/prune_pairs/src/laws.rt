@@ -2,8 +2,8 @@
 
 ghost use Rattle.prune_pairs.specs.Laws.{PruningIsSame, PrunedIsSame, CutIsOne, PrunedIsOne, CutOfNothing, CutIsShorter, PrunedIsShorter, PrunedIsItself, BetterGoesByStates, RemovableArePruned, RemovableIsOne};
 
-/// Cutting any transitions that each have a better one, by one approved pair over the closures of stable relations, leaves what is
-/// accepted, in both modes.
+/// Cutting any transitions that each have a better one, by one approved pair over the closures of
+/// stable relations, leaves what is accepted, in both modes.
 pub fn pruning_is_same()
     ensures { PruningIsSame }
 {}
@@ -43,12 +43,14 @@ pub fn pruned_is_itself()
     ensures { PrunedIsItself }
 {}
 
-/// Which transition is better goes by the pairs of states alone, so that closures on the states serve for closures.
+/// Which transition is better goes by the pairs of states alone, so that closures on the states
+/// serve for closures.
 pub fn better_goes_by_states()
     ensures { BetterGoesByStates }
 {}
 
-/// Cutting all removable transitions is pruning, if they were found by closures of the greatest relations.
+/// Cutting all removable transitions is pruning, if they were found by closures of the greatest
+/// relations.
 pub fn removable_are_pruned()
     ensures { RemovableArePruned }
 {}

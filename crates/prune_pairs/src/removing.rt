@@ -18,8 +18,9 @@ pub struct Gone {
     pub by: u32,
 }
 
-/// The transitions that have a better one, by the approved pair with this number, from 1 to 4: ascending, each with the least
-/// better one. A relation that the pair has no use for is passed over.
+/// The transitions that have a better one, by the approved pair with this number, from 1 to 4:
+/// ascending, each with the least better one. A relation that the pair has no use for is passed
+/// over.
 pub fn removable(
     alloc: Global,
     automaton: &Auto,
@@ -31,7 +32,8 @@ pub fn removable(
     requires pair_upto { pair ≤ 4 }
     requires back { ¬ (pair ≡ 1) → back.now.size ≡ automaton.now.states }
     requires ahead { ¬ (pair ≡ 2) → ahead.now.size ≡ automaton.now.states }
-    ensures { IfOk result (AreLeastBetter automaton.now pair (Holds back.now.pairs) (Holds ahead.now.pairs)) }
+    ensures { IfOk result
+        (AreLeastBetter automaton.now pair (Holds back.now.pairs) (Holds ahead.now.pairs)) }
 {
     let mut gone = List::new(alloc);
     for trans in 0..automaton.transitions().len() as u32 {

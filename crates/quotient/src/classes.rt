@@ -48,9 +48,11 @@ pub(crate) fn counted(class: usize, count: usize) -> usize
     if class == count { count + 1 } else { count }
 }
 
-/// The number of classes; None where they are not in the order in which they appear, or there is none.
+/// The number of classes; None where they are not in the order in which they appear, or there is
+/// none.
 fn count_of(of: &[u32]) -> Option<usize>
-    ensures some { IfSome result (λ n. AreClasses of.now × IsCount of.now (length of.now) n × (n ≤ length of.now)) }
+    ensures some { IfSome
+        result (λ n. AreClasses of.now × IsCount of.now (length of.now) n × (n ≤ length of.now)) }
     ensures none { IfNone result (HasShapeFault of.now) }
 {
     let mut count = 0;

@@ -11,7 +11,8 @@ use bit_rel::Rel;
 use row_steps::next_bit;
 use std::alloc::Global;
 
-/// The class of a state before this one that the relation relates to it both ways; `next` where there is none.
+/// The class of a state before this one that the relation relates to it both ways; `next` where
+/// there is none.
 fn class_for(rel: &Rel, of: &[u32], state: u32, next: u32) -> u32
     requires is_state { state < rel.now.size }
     requires few { rel.now.size < 2 ^ 32 }
@@ -31,12 +32,13 @@ fn class_for(rel: &Rel, of: &[u32], state: u32, next: u32) -> u32
     next
 }
 
-/// The classes of the states that the relation, which is reflexive and transitive, relates both ways, numbered by their least
-/// members.
+/// The classes of the states that the relation, which is reflexive and transitive, relates both
+/// ways, numbered by their least members.
 pub fn classes_of(alloc: Global, rel: &Rel) -> Result<Classes, Memory>
     requires some { 1 ≤ rel.now.size }
     requires reflexive { (p : ℕ) → p < rel.now.size → Holds rel.now.pairs p p }
-    requires transitive { (p q r : ℕ) → Holds rel.now.pairs p q → Holds rel.now.pairs q r → Holds rel.now.pairs p r }
+    requires transitive { (p q r : ℕ) → Holds rel.now.pairs p q → Holds rel.now.pairs q r
+        → Holds rel.now.pairs p r }
     ensures { IfOk result (AreClassesOf rel.now.size (Holds rel.now.pairs)) }
 {
     let mut of = Vec::new(alloc);

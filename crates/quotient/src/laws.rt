@@ -7,17 +7,20 @@ pub fn quotient_accepts_more()
     ensures { QuotientAcceptsMore }
 {}
 
-/// It accepts the same, in both modes, if the closure of one relation that is stable forward relates the members of each class.
+/// It accepts the same, in both modes, if the closure of one relation that is stable forward
+/// relates the members of each class.
 pub fn forward_quotient_is_same()
     ensures { ForwardQuotientIsSame }
 {}
 
-/// It accepts the same, in both modes, if the closure of one relation that is stable backward relates the members of each class.
+/// It accepts the same, in both modes, if the closure of one relation that is stable backward
+/// relates the members of each class.
 pub fn backward_quotient_is_same()
     ensures { BackwardQuotientIsSame }
 {}
 
-/// It accepts the same lassos if the closure of the state relation of one right list of triples relates the members of each class.
+/// It accepts the same lassos if the closure of the state relation of one right list of triples
+/// relates the members of each class.
 pub fn delayed_quotient_is_same()
     ensures { DelayedQuotientIsSame }
 {}

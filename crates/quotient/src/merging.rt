@@ -32,7 +32,10 @@ fn images(alloc: Global, automaton: &Auto, classes: &Classes) -> Result<Vec<Tran
 /// The classes of the accepting states, one for each of them.
 fn accepting_classes(alloc: Global, automaton: &Auto, classes: &Classes) -> Result<Vec<u32>, Memory>
     requires { length classes.now ≡ automaton.now.states }
-    ensures { IfOk result (λ v. v.items ≡ map (class_of classes.now) (filter (is_accepting automaton.now) (range_with_len 0 automaton.now.states))) }
+    ensures { IfOk
+        result (λ v.
+        v.items ≡ map (class_of classes.now)
+        (filter (is_accepting automaton.now) (range_with_len 0 automaton.now.states))) }
 {
     let mut made = Vec::new(alloc);
     for state in 0..automaton.states() {
@@ -66,8 +69,8 @@ fn distinct_numbers(list: Vec<u32>) -> Result<Vec<u32>, Memory>
     Ok(list)
 }
 
-/// The automaton whose states are the classes: its transitions are the images of the transitions, and a class is accepting if a
-/// member is.
+/// The automaton whose states are the classes: its transitions are the images of the transitions,
+/// and a class is accepting if a member is.
 pub fn merge(alloc: Global, automaton: &Auto, classes: &Classes) -> Result<Auto, Memory>
     requires { length classes.now ≡ automaton.now.states }
     ensures { IfOk result (IsQuotient automaton.now classes.now) }

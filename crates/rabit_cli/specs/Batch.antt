@@ -1,4 +1,5 @@
--- `batch LIST`: the questions of a list are carried out one after the other, and a line is said of each.
+-- `batch LIST`: the questions of a list are carried out one after the other, and a line is said of
+-- each.
 use Rattle.std.specs.Prelude.{◌≡◌, ◌≢◌, ℕ, ◌+◌, ◌-◌, ◌^◌, ◌≤◌, ◌==◌, ◌⊎◌, min, List, [], ◌∷◌, ◌++◌, length, take, map, All, Some, None, IfSome, true, decimal, if◌then◌else◌}
 use Rattle.std.specs.FinMap as files
 use Rattle.std.specs.List.{list_all}
@@ -26,7 +27,8 @@ use Rattle.rabit_replies.specs.Files.{pair_inputs}
 
 -- ---- one question
 
--- A question is carried out as `include` with its three names, over lassos, with the usual lookahead and limit.
+-- A question is carried out as `include` with its three names, over lassos, with the usual
+-- lookahead and limit.
 abbrev pub question_inputs : Question → List Input
 question_inputs q = pair_inputs q.first q.second
 
@@ -36,7 +38,8 @@ MeansQuestion q = MeansInclude q.cert (usual_terms Buchi)
 abbrev pub question_request : Question → Request
 question_request q = request_with (question_inputs q) (MeansQuestion q)
 
--- The statuses of questions: those of an inclusion's results, that of a faulty file, and those of the outside and of want of memory.
+-- The statuses of questions: those of an inclusion's results, that of a faulty file, and those of
+-- the outside and of want of memory.
 abbrev pub IsQuestionStatus : ℕ → Type 0
 IsQuestionStatus status = (status ≤ 2) ⊎ (status ≡ 4) ⊎ (status ≡ 6) ⊎ (status ≡ 7) ⊎ (status ≡ 8)
 
@@ -50,9 +53,11 @@ unsaid status old new = call_of old new silent silent status
 
 -- The question, asked of the one files, ended with this status and left the others.
 abbrev pub LeavesQuestion : Question → ℕ → FileMap → FileMap → Type 0
-LeavesQuestion q status files files' = (end : Ending) × Leaves (question_request q) end files files' × (status_of end ≡ status)
+LeavesQuestion q status files files' =
+    (end : Ending) × Leaves (question_request q) end files files' × (status_of end ≡ status)
 
--- Whatever is the right reply: its status is answered and its files are written, unless a call of the shelf failed or memory was refused.
+-- Whatever is the right reply: its status is answered and its files are written, unless a call of
+-- the shelf failed or memory was refused.
 abbrev pub AnswersQuestion : Question → ℕ → ShelfSeen → ShelfSeen → FileMap → Type 0
 AnswersQuestion q status old new files =
     (r : Reply)
@@ -62,13 +67,17 @@ AnswersQuestion q status old new files =
     ⊎ Rose old.put_faults new.put_faults
     ⊎ (status ≡ 8)
 
--- What a status up to 2 of a question shows: what the same status of `include` does, with nothing printed.
+-- What a status up to 2 of a question shows: what the same status of `include` does, with nothing
+-- printed.
 abbrev pub ShowsQuestion : Question → ℕ → ShelfSeen → ShelfSeen → Type 0
-ShowsQuestion q status old new = IfResult (unsaid status old new) (ShowsInclude q.first q.second q.cert (usual_terms Buchi) (unsaid status old new))
+ShowsQuestion q status old new =
+    IfResult (unsaid status old new)
+    (ShowsInclude q.first q.second q.cert (usual_terms Buchi) (unsaid status old new))
 
 -- The files of its automata are there.
 abbrev pub AutomataAreThere : FileMap → Question → Type 0
-AutomataAreThere held q = (files.contains_key held q.first ≡ true) × (files.contains_key held q.second ≡ true)
+AutomataAreThere held q =
+    (files.contains_key held q.first ≡ true) × (files.contains_key held q.second ≡ true)
 
 -- The three names of each question are words.
 abbrev pub AreQuestions : List Question → Type 0
@@ -84,8 +93,9 @@ pub record ShelfFaults (status : ℕ) (old new : ShelfSeen) : Type 0 where
   pub no_write_fault : status ≢ 7 → new.put_faults ≡ old.put_faults
   pub memory : status ≡ 8 → new.files ≡ old.files
 
--- The question came to an end with this status. It began just the files that the status needs, each once, and put those of its reply once each, up to one
--- that was refused; and each fault has its count.
+-- The question came to an end with this status. It began just the files that the status needs, each
+-- once, and put those of its reply once each, up to one that was refused; and each fault has its
+-- count.
 pub record IsAskedOf (q : Question) (status : ℕ) (old new : ShelfSeen) : Type 0 where
   pub end : Ending
   pub ends : EndsSo (question_request q) end old new
@@ -93,14 +103,17 @@ pub record IsAskedOf (q : Question) (status : ℕ) (old new : ShelfSeen) : Type 
   pub calls : CallsShelf (question_request q) status old new
   pub faults : ShelfFaults status old new
 
--- The first questions, one for each status, ended with these, each asked of the shelf as the one before it left it. No call was made for a later question.
+-- The first questions, one for each status, ended with these, each asked of the shelf as the one
+-- before it left it. No call was made for a later question.
 abbrev pub LeaveInTurn : List Question → List ℕ → ShelfSeen → ShelfSeen → Type 0
 LeaveInTurn questions [] old new = new ≡ old
 LeaveInTurn [] (status ∷ statuses) old new = ⊥
 LeaveInTurn (q ∷ questions) (status ∷ statuses) old new =
-    (between : ShelfSeen) × IsAskedOf q status old between × LeaveInTurn questions statuses between new
+    (between : ShelfSeen) × IsAskedOf q status old between
+    × LeaveInTurn questions statuses between new
 
--- The first questions, one for each status, were asked so, each of the files that the one before it left, and each status up to 2 shows what that of
+-- The first questions, one for each status, were asked so, each of the files that the one before it
+-- left, and each status up to 2 shows what that of
 -- `include` does, of the files as they were when its question was asked and as that left them.
 abbrev pub ShowInTurn : List Question → List ℕ → ShelfSeen → ShelfSeen → Type 0
 ShowInTurn questions [] old new = new ≡ old
@@ -118,7 +131,8 @@ question_line number status = decimal number ++ (32 ∷ (decimal status ++ line_
 -- The lines of questions with these statuses, numbered from this number on.
 abbrev pub question_lines : ℕ → List ℕ → List ℕ
 question_lines number [] = []
-question_lines number (status ∷ statuses) = question_line number status ++ question_lines (number + 1) statuses
+question_lines number (status ∷ statuses) =
+    question_line number status ++ question_lines (number + 1) statuses
 
 -- Every question was carried out and its line sent.
 abbrev pub AllSaid : ℕ → List Question → List ℕ → ℕ → SinkSeen → SinkSeen → Type 0
@@ -136,7 +150,9 @@ LastRefused number statuses status old new =
     × ((before : List ℕ)
     × (last : ℕ)
     × (statuses ≡ before ++ last ∷ [])
-    × ((n : ℕ) × Sends (question_lines number before ++ take n (question_line (number + length before) last)) old new))
+    × ((n : ℕ)
+    × Sends (question_lines number before
+    ++ take n (question_line (number + length before) last)) old new))
 
 -- By the count of gives: each of these statuses was given once, in a line of its own.
 abbrev pub GivenEach : List ℕ → ℕ → ℕ → Type 0
@@ -152,20 +168,28 @@ times status (one ∷ more) = if one == status then 1 + times status more else t
 abbrev pub RoseBy : ℕ → ℕ → ℕ → Type 0
 RoseBy n before now = min (before + n) (2 ^ 64 - 1) ≤ now
 
--- The questions were carried out one after the other, the first with this number, until all were or the sink refused a line. Each line was one give.
--- The count of failed reads rose once at least for each status 6, and did not change where there is none; so did that of failed puts for 7.
+-- The questions were carried out one after the other, the first with this number, until all were or
+-- the sink refused a line. Each line was one give. The count of failed reads rose once at least for
+-- each status 6, and did not change where there is none; so did that of failed puts for 7.
 pub record IsCarriedEach (number : ℕ) (questions : List Question) (call : Call) : Type 0 where
   pub statuses : List ℕ
   pub within : length statuses ≤ length questions
   pub known : All IsQuestionStatus statuses
-  pub said : AllSaid number questions statuses call.status call.before.sink call.after.sink ⊎ LastRefused number statuses call.status call.before.sink call.after.sink
+  pub said : AllSaid number questions statuses call.status call.before.sink call.after.sink
+      ⊎ LastRefused number statuses call.status call.before.sink call.after.sink
   pub given_each : GivenEach statuses call.before.sink.gives call.after.sink.gives
   pub in_turn : LeaveInTurn questions statuses call.before.shelf call.after.shelf
-  pub read_faults_rose : RoseBy (times 6 statuses) call.before.shelf.read_faults call.after.shelf.read_faults
-  pub put_faults_rose : RoseBy (times 7 statuses) call.before.shelf.put_faults call.after.shelf.put_faults
-  pub read_faults_stay : times 6 statuses ≡ 0 → call.after.shelf.read_faults ≡ call.before.shelf.read_faults
-  pub put_faults_stay : times 7 statuses ≡ 0 → call.after.shelf.put_faults ≡ call.before.shelf.put_faults
-  pub missed_stays : IfSome call.before.shelf.files (λ files. All (AutomataAreThere files) questions → call.after.shelf.missed ≡ call.before.shelf.missed)
+  pub read_faults_rose : RoseBy (times 6 statuses) call.before.shelf.read_faults
+      call.after.shelf.read_faults
+  pub put_faults_rose : RoseBy (times 7 statuses) call.before.shelf.put_faults
+      call.after.shelf.put_faults
+  pub read_faults_stay : times 6 statuses ≡ 0
+      → call.after.shelf.read_faults ≡ call.before.shelf.read_faults
+  pub put_faults_stay : times 7 statuses ≡ 0
+      → call.after.shelf.put_faults ≡ call.before.shelf.put_faults
+  pub missed_stays : IfSome
+      call.before.shelf.files (λ files.
+      All (AutomataAreThere files) questions → call.after.shelf.missed ≡ call.before.shelf.missed)
 
 -- ---- the whole batch
 
@@ -190,25 +214,29 @@ pub record NoneAsked (list : List ℕ) (call : Call) : Type 0 where
   pub begun : BegunByStatus (batch_inputs list) call.status call.before.shelf call.after.shelf
   pub puts_stay : call.after.shelf.puts ≡ call.before.shelf.puts
 
--- The shelf once one more file was begun and read; which file a read was refused of before is not told.
+-- The shelf once one more file was begun and read; which file a read was refused of before is not
+-- told.
 abbrev pub after_reading : ShelfSeen → WhichFile → ShelfSeen
 after_reading seen blamed = record seen { begins = counted seen.begins; blamed = blamed }
 
 -- The rest of a call, from this shelf on.
 abbrev pub from_shelf : ShelfSeen → Call → Call
-from_shelf shelf whole = call_of shelf whole.after.shelf whole.before.sink whole.after.sink whole.status
+from_shelf shelf whole =
+    call_of shelf whole.after.shelf whole.before.sink whole.after.sink whole.status
 
 -- The list, the first file begun, was read, and its questions were carried out from the first on.
 pub record AreAsked (list : List ℕ) (call : Call) : Type 0 where
   pub questions : List Question
   pub words : AreQuestions questions
   pub few : length questions ≤ MOST_LINES
-  pub read : IfSome call.before.shelf.files (λ files. FileReads files (list_file list) (value.Questions questions))
+  pub read : IfSome
+      call.before.shelf.files (λ files.
+      FileReads files (list_file list) (value.Questions questions))
   pub blamed : WhichFile
   pub each : IsCarriedEach 1 questions (from_shelf (after_reading call.before.shelf blamed) call)
 
--- A batch whose lines were all given ends with 0, with 11 for a list with a fault, with 8 for want of memory before its first question, and with 6 only
--- where a read failed.
+-- A batch whose lines were all given ends with 0, with 11 for a list with a fault, with 8 for want
+-- of memory before its first question, and with 6 only where a read failed.
 abbrev pub EndsBatch : Call → Type 0
 EndsBatch call =
     (call.status ≡ 0)
@@ -217,7 +245,8 @@ EndsBatch call =
     ⊎ ((call.status ≡ 6) × Rose call.before.shelf.read_faults call.after.shelf.read_faults)
     ⊎ Rose call.before.sink.give_faults call.after.sink.give_faults
 
--- How a batch goes: none of its questions was carried out, or they were, one after the other; what its faults come of; and its status.
+-- How a batch goes: none of its questions was carried out, or they were, one after the other; what
+-- its faults come of; and its status.
 pub record IsBatch (list : List ℕ) (call : Call) : Type 0 where
   pub how : NoneAsked list call ⊎ AreAsked list call
   pub cause : FaultsHaveCauses call

@@ -36,7 +36,8 @@ abbrev pub IsSingle : Option Question → Type 0
 IsSingle (Some (Batch list)) = ⊥
 IsSingle question = Unit {0}
 
--- The files that are read, in order; those of a batch's questions are read after these and are not among them.
+-- The files that are read, in order; those of a batch's questions are read after these and are not
+-- among them.
 abbrev pub inputs_of : Option Question → List Input
 inputs_of None = []
 inputs_of (Some (Check a b c)) = check_inputs a b c
@@ -69,12 +70,15 @@ outputs_of question = []
 abbrev pub drill_of : ℕ → ℕ → ℕ → Drawing
 drill_of seed states labels = record { seed = seed; states = states; labels = labels }
 
--- Which reply is right for what the files read as. After a batch's list none is, since it goes on by itself.
+-- Which reply is right for what the files read as. After a batch's list none is, since it goes on
+-- by itself.
 abbrev pub Means : Option Question → List Value → Reply → Type 0
 Means None values r = r ≡ usage_reply
 Means (Some (Check a b c)) values r = MeansCheck values r
-Means (Some (Include a b c mode look limit letters)) values r = MeansInclude c (terms_by mode look limit letters) values r
-Means (Some (Reduce a mode look letters)) values r = MeansReduce mode (sight_by look letters) values r
+Means (Some (Include a b c mode look limit letters)) values r =
+    MeansInclude c (terms_by mode look limit letters) values r
+Means (Some (Reduce a mode look letters)) values r =
+    MeansReduce mode (sight_by look letters) values r
 Means (Some (Drill seed states labels)) values r = MeansDrill (drill_of seed states labels) values r
 Means (Some (Upgrade c out)) values r = MeansUpgrade out values r
 Means (Some (Cross a b out look)) values r = MeansCross out look values r
@@ -101,38 +105,47 @@ abbrev pub IfBatch : Option Question → (List ℕ → Type 0) → Type 0
 IfBatch (Some (Batch list)) P = P list
 IfBatch question P = Unit {0}
 
--- What a status up to 2 shows of the files before and after, and of what was sent; and what a drill says at each. Words that are no question have no
--- status up to 2.
+-- What a status up to 2 shows of the files before and after, and of what was sent; and what a drill
+-- says at each. Words that are no question have no status up to 2.
 abbrev pub Shows : Option Question → Call → Type 0
 Shows None call = IfResult call (λ files files'. ⊥)
 Shows (Some (Check a b c)) call = IfResult call (λ files files'. ShowsCheck a b c call files)
-Shows (Some (Include a b c mode look limit letters)) call = IfResult call (ShowsInclude a b c (terms_by mode look limit letters) call)
-Shows (Some (Reduce a mode look letters)) call = IfResult call (λ files files'. ShowsReduce a mode (sight_by look letters) call files)
+Shows (Some (Include a b c mode look limit letters)) call =
+    IfResult call (ShowsInclude a b c (terms_by mode look limit letters) call)
+Shows (Some (Reduce a mode look letters)) call =
+    IfResult call (λ files files'. ShowsReduce a mode (sight_by look letters) call files)
 Shows (Some (Drill seed states labels)) call = SaysDrill (drill_of seed states labels) call
 Shows (Some (Upgrade c out)) call = IfResult call (ShowsUpgrade c out call)
 Shows (Some (Cross a b out look)) call = IfResult call (ShowsCross a b out look call)
-Shows (Some (CrossCheck a b f)) call = IfResult call (λ files files'. ShowsCrossCheck a b f call files)
+Shows (Some (CrossCheck a b f)) call =
+    IfResult call (λ files files'. ShowsCrossCheck a b f call files)
 Shows (Some (Equal a b c d)) call = IfResult call (ShowsEqual a b c d call)
 Shows (Some (Batch list)) call = Unit {0}
 Shows (Some (Union a b mode)) call = IfResult call (λ files files'. ShowsUnion a b mode call files)
-Shows (Some (Intersect a b mode)) call = IfResult call (λ files files'. ShowsIntersect a b mode call files)
+Shows (Some (Intersect a b mode)) call =
+    IfResult call (λ files files'. ShowsIntersect a b mode call files)
 Shows (Some (Shrink a b c out)) call = IfResult call (ShowsShrink a b c out call)
 Shows (Some (Empty a e c mode)) call = IfResult call (ShowsProperty emptiness a e c mode call)
-Shows (Some (Universal a u c mode)) call = IfResult call (ShowsProperty universality a u c mode call)
+Shows (Some (Universal a u c mode)) call =
+    IfResult call (ShowsProperty universality a u c mode call)
 
 -- Where the shelf tells its files: this holds of those before and those after.
 abbrev pub OfFiles : Call → (FileMap → FileMap → Type 0) → Type 0
 OfFiles call P = BeforeAndAfter call.before.shelf.files call.after.shelf.files P
 
--- What the files are afterwards: only a decision, an upgrade, a cross relation's search, a comparison and a shrinking write, and only the files of
--- certificates or of the relation, and `empty` and `universal` the made automaton's too. What the questions of a batch write is told with them.
+-- What the files are afterwards: only a decision, an upgrade, a cross relation's search, a
+-- comparison and a shrinking write, and only the files of certificates or of the relation, and
+-- `empty` and `universal` the made automaton's too. What the questions of a batch write is told
+-- with them.
 abbrev pub LeavesFiles : Option Question → Call → Type 0
-LeavesFiles (Some (Include a b c mode look limit letters)) call = OfFiles call (LeavesDecided a b c (terms_by mode look limit letters) call)
+LeavesFiles (Some (Include a b c mode look limit letters)) call =
+    OfFiles call (LeavesDecided a b c (terms_by mode look limit letters) call)
 LeavesFiles (Some (Upgrade c out)) call = OfFiles call (LeavesUpgraded c out call)
 LeavesFiles (Some (Cross a b out look)) call = OfFiles call (LeavesCross a b out look call)
 LeavesFiles (Some (Equal a b c d)) call = OfFiles call (LeavesEqual a b c d call)
 LeavesFiles (Some (Shrink a b c out)) call = OfFiles call (LeavesShrunk a b c out call)
 LeavesFiles (Some (Empty a e c mode)) call = OfFiles call (LeavesProperty emptiness a e c mode call)
-LeavesFiles (Some (Universal a u c mode)) call = OfFiles call (LeavesProperty universality a u c mode call)
+LeavesFiles (Some (Universal a u c mode)) call =
+    OfFiles call (LeavesProperty universality a u c mode call)
 LeavesFiles (Some (Batch list)) call = Unit {0}
 LeavesFiles question call = StaysUnwritten call

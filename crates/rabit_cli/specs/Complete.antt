@@ -36,8 +36,10 @@ automata_of (Shrink a b c out) = pair_inputs a b
 automata_of (Empty a e c mode) = property_inputs emptiness a
 automata_of (Universal a u c mode) = property_inputs universality a
 
--- The statuses of the command's results for these files, and that of want of memory. A check may also refuse the certificate; of an upgrade, a
--- cross relation and its check, a union, an intersection and a shrinking the files tell which status it is. A batch is no single question: what it answers is told by `EndsBatch`.
+-- The statuses of the command's results for these files, and that of want of memory. A check may
+-- also refuse the certificate; of an upgrade, a cross relation and its check, a union, an
+-- intersection and a shrinking the files tell which status it is. A batch is no single question:
+-- what it answers is told by `EndsBatch`.
 abbrev pub MayAnswer : Question → FileMap → ℕ → Type 0
 MayAnswer (Check a b c) files status = (status ≤ 2) ⊎ (status ≡ 5) ⊎ (status ≡ 8)
 MayAnswer (Include a b c mode look limit letters) files status = (status ≤ 2) ⊎ (status ≡ 8)
@@ -49,7 +51,8 @@ MayAnswer (CrossCheck a b f) files status = IsCrossCheckStatus files a b f statu
 MayAnswer (Equal a b c d) files status = (status ≤ 2) ⊎ (status ≡ 8)
 MayAnswer (Batch list) files status = ⊥
 MayAnswer (Union a b mode) files status = IsUnionStatus files a b status ⊎ (status ≡ 8)
-MayAnswer (Intersect a b mode) files status = IsIntersectionStatus mode files a b status ⊎ (status ≡ 8)
+MayAnswer (Intersect a b mode) files status =
+    IsIntersectionStatus mode files a b status ⊎ (status ≡ 8)
 MayAnswer (Shrink a b c out) files status = IsShrinkStatus files a b c status ⊎ (status ≡ 8)
 MayAnswer (Empty a e c mode) files status = (status ≤ 2) ⊎ (status ≡ 8)
 MayAnswer (Universal a u c mode) files status = (status ≤ 2) ⊎ (status ≡ 8)
@@ -66,4 +69,6 @@ abbrev pub AnswersWhatReads : Option Question → Call → Type 0
 AnswersWhatReads None call = Unit {0}
 AnswersWhatReads (Some (Batch list)) call = Unit {0}
 AnswersWhatReads (Some q) call =
-    IfSome call.before.shelf.files (λ files. (values : List Value) → ReadInTurn files (automata_of q) values → MayAnswer q files call.status ⊎ AnyRose call)
+    IfSome call.before.shelf.files (λ files.
+    (values : List Value) → ReadInTurn files (automata_of q) values
+    → MayAnswer q files call.status ⊎ AnyRose call)

@@ -31,21 +31,31 @@ exchanged pair = record { first = pair.second; second = pair.first; labels = pai
 -- How large the automaton of this name is.
 abbrev pub size_line : List ℕ → Automaton → List ℕ
 size_line name A =
-    name ++ (codes " " ++ (decimal A.states ++ (codes " states " ++ (decimal (length A.transitions) ++ (codes " transitions" ++ line_end)))))
+    name ++ (codes " "
+    ++ (decimal A.states
+    ++ (codes " states "
+    ++ (decimal (length A.transitions) ++ (codes " transitions" ++ line_end)))))
 
--- What was found of an inclusion: the number of all elements, the lengths of the lasso, or the limit.
+-- What was found of an inclusion: the number of all elements, the lengths of the lasso, or the
+-- limit.
 abbrev pub finding : Body → List ℕ
-finding (Yes evidence) = codes "included, elements " ++ (decimal (length evidence.elements) ++ line_end)
-finding (NoLasso lasso) = codes "not included, prefix " ++ (decimal (length lasso.prefix) ++ (codes ", loop " ++ (decimal (length lasso.turn) ++ line_end)))
+finding (Yes evidence) =
+    codes "included, elements " ++ (decimal (length evidence.elements) ++ line_end)
+finding (NoLasso lasso) =
+    codes "not included, prefix "
+    ++ (decimal (length lasso.prefix)
+    ++ (codes ", loop " ++ (decimal (length lasso.turn) ++ line_end)))
 finding (NoWord word) = []
 finding (Listing list) = codes "limit " ++ (decimal list.limit ++ line_end)
 
--- The four lines: the sizes of both, and what was found of the first in the second and of the second in the first.
+-- The four lines: the sizes of both, and what was found of the first in the second and of the
+-- second in the first.
 abbrev pub drill_text : Joined → Body → Body → List ℕ
 drill_text pair forth converse =
     size_line (codes "first") pair.first
     ++ (size_line (codes "second") pair.second
-    ++ ((codes "first in second: " ++ finding forth) ++ (codes "second in first: " ++ finding converse)))
+    ++ ((codes "first in second: " ++ finding forth)
+    ++ (codes "second in first: " ++ finding converse)))
 
 -- The drill's two automata, and the answers for both inclusions between them.
 pub record AreDecided (d : Drill) (pair : Joined) (forth converse : Cert) : Type 0 where
@@ -56,7 +66,8 @@ pub record AreDecided (d : Drill) (pair : Joined) (forth converse : Cert) : Type
 -- The reply; there is nothing to read.
 abbrev pub MeansDrill : Drill → List Value → Reply → Type 0
 MeansDrill d values r =
-    (pair : Joined) × (forth converse : Cert) × AreDecided d pair forth converse × (r ≡ only_said status.Done (drill_text pair forth.body converse.body))
+    (pair : Joined) × (forth converse : Cert) × AreDecided d pair forth converse
+    × (r ≡ only_said status.Done (drill_text pair forth.body converse.body))
 
 -- The text is that of the drill's two answers, which are true.
 pub record IsDrillText (d : Drill) (text : List ℕ) : Type 0 where
@@ -68,9 +79,10 @@ pub record IsDrillText (d : Drill) (text : List ℕ) : Type 0 where
   pub second_in_first : AnswerIsTrue (exchanged pair) drill_terms converse.body
   pub is : text ≡ drill_text pair forth.body converse.body
 
--- What a drill says, whatever the shelf tells: its text was given, or where the sink's count rose a front of it at status 7, or want of memory
--- was said.
+-- What a drill says, whatever the shelf tells: its text was given, or where the sink's count rose a
+-- front of it at status 7, or want of memory was said.
 abbrev pub SaysDrill : Drill → Call → Type 0
 SaysDrill d call =
-    ((text : List ℕ) × IsDrillText d text × WasGiven text 0 7 call.status call.before.sink call.after.sink)
+    ((text : List ℕ) × IsDrillText d text
+    × WasGiven text 0 7 call.status call.before.sink call.after.sink)
     ⊎ ((call.status ≡ 8) × SaysOnly memory_line call.status call.before.sink call.after.sink)

@@ -8,7 +8,8 @@ use Rattle.ba_format.specs.Joining.{IsJoined}
 use Rattle.rabit_replies.specs.declared.files.TheConstants.{FIRST_LIMITS}
 use Rattle.rabit_cli.specs.Property.{Property}
 
--- The text of an automaton that accepts nothing: its initial state is not accepting, and it has no transition.
+-- The text of an automaton that accepts nothing: its initial state is not accepting, and it has no
+-- transition.
 abbrev pub empty_text : List ℕ
 empty_text = codes "[0]\n[1]\n"
 
@@ -17,7 +18,8 @@ abbrev pub AcceptsNothing : Mode → Automaton → Type 0
 AcceptsNothing Buchi A = (u v : List ℕ) → AcceptsLasso A u v → ⊥
 AcceptsNothing Finite A = (w : List ℕ) → AcceptsWord A w → ⊥
 
--- An automaton is empty if it is included in that one, and a lasso or a word that it accepts shows that it is not.
+-- An automaton is empty if it is included in that one, and a lasso or a word that it accepts shows
+-- that it is not.
 abbrev pub emptiness : Property
 emptiness = record {
   name = codes "empty";

@@ -45,13 +45,24 @@ abbrev pub version_by : Option ℕ → ℕ
 version_by None = 1
 version_by (Some letters) = 2
 
--- The terms of a decision with this mode, lookahead and limit, where so many letters are named, or none.
+-- The terms of a decision with this mode, lookahead and limit, where so many letters are named, or
+-- none.
 abbrev pub terms_by : Mode → ℕ → ℕ → Option ℕ → Terms
-terms_by mode look limit letters = record { mode = mode; look = look; letters = letters_by letters; version = version_by letters; limit = limit }
+terms_by mode look limit letters =
+    record {
+      mode = mode;
+      look = look;
+      letters = letters_by letters;
+      version = version_by letters;
+      limit = limit;
+    }
 
--- The reply to two joined automata: the answer of the search on the reduced ones is written, and its verdict is said.
+-- The reply to two joined automata: the answer of the search on the reduced ones is written, and
+-- its verdict is said.
 abbrev pub IsDecided : List ℕ → Terms → Joined → Reply → Type 0
-IsDecided name terms pair r = (cert : Cert) × IsAnswer pair terms cert × IsVerdictReply terms.mode pair cert.body (certificate_put name cert ∷ []) r
+IsDecided name terms pair r =
+    (cert : Cert) × IsAnswer pair terms cert
+    × IsVerdictReply terms.mode pair cert.body (certificate_put name cert ∷ []) r
 
 -- The reply to what was read.
 abbrev pub MeansInclude : List ℕ → Terms → List Value → Reply → Type 0
@@ -60,9 +71,10 @@ MeansInclude name terms values r =
     × (values ≡ value.Automaton one ∷ value.Automaton two ∷ [])
     × ((pair : Joined) × IsJoined one two pair × IsDecided name terms pair r)
 
--- The two files read as this pair of automata, the first within these limits, and the certificate is the answer for them: it has a text, keeps all
--- rules of the check, and what it says is so.
-pub record IsCertForWithin (limits : Limits) (files : FileMap) (a b : List ℕ) (terms : Terms) (pair : Joined) (cert : Cert) : Type 0 where
+-- The two files read as this pair of automata, the first within these limits, and the certificate
+-- is the answer for them: it has a text, keeps all rules of the check, and what it says is so.
+pub record IsCertForWithin (limits : Limits) (files : FileMap) (a b : List ℕ) (terms : Terms)
+    (pair : Joined) (cert : Cert) : Type 0 where
   pub read : ReadsPairWithin limits files a b pair
   pub answer : IsAnswer pair terms cert
   pub formed : WellFormed cert
@@ -76,21 +88,28 @@ IsCertFor = IsCertForWithin FIRST_LIMITS
 -- The name holds the whole text of the answer for the two files, and all other files are as before.
 abbrev pub HoldsAnswer : FileMap → List ℕ → List ℕ → List ℕ → Terms → FileMap → Type 0
 HoldsAnswer files a b c terms files' =
-    (pair : Joined) × (cert : Cert) × IsCertFor files a b terms pair cert × (files' ≡ map.insert files c (text cert))
+    (pair : Joined) × (cert : Cert) × IsCertFor files a b terms pair cert
+    × (files' ≡ map.insert files c (text cert))
 
 -- The name holds a front of that text, or what it held before, and all other files are as before.
 abbrev pub HoldsAnswerFront : FileMap → List ℕ → List ℕ → List ℕ → Terms → FileMap → Type 0
 HoldsAnswerFront files a b c terms files' =
-    (pair : Joined) × (cert : Cert) × IsCertFor files a b terms pair cert × IsCutShort files (certificate_put c cert ∷ []) files'
+    (pair : Joined) × (cert : Cert) × IsCertFor files a b terms pair cert
+    × IsCutShort files (certificate_put c cert ∷ []) files'
 
--- What it leaves, by its status: a verdict comes with the certificate's whole text. A write fault leaves that too where the
--- verdict could not be sent, and where the shelf's count rose a front of it or what was there before. Nothing else writes a file.
+-- What it leaves, by its status: a verdict comes with the certificate's whole text. A write fault
+-- leaves that too where the verdict could not be sent, and where the shelf's count rose a front of
+-- it or what was there before. Nothing else writes a file.
 abbrev pub LeavesDecided : List ℕ → List ℕ → List ℕ → Terms → Call → FileMap → FileMap → Type 0
-LeavesDecided a b c terms = LeavesByStatus (λ before. HoldsAnswer before a b c terms) (λ before. HoldsAnswerFront before a b c terms)
+LeavesDecided a b c terms =
+    LeavesByStatus (λ before. HoldsAnswer before a b c terms) (λ before.
+    HoldsAnswerFront before a b c terms)
 
--- It said no: the named files read as two automata, the answer is a no and keeps all rules of a check, its lasso, in finite mode its
--- word, separates the two and was printed, and the certificate's name holds the answer's text; all other files are as before.
-pub record IsDecidedApart (files : FileMap) (a b c : List ℕ) (terms : Terms) (files' : FileMap) (call : Call) : Type 0 where
+-- It said no: the named files read as two automata, the answer is a no and keeps all rules of a
+-- check, its lasso, in finite mode its word, separates the two and was printed, and the
+-- certificate's name holds the answer's text; all other files are as before.
+pub record IsDecidedApart (files : FileMap) (a b c : List ℕ) (terms : Terms) (files' : FileMap)
+    (call : Call) : Type 0 where
   pub pair : Joined
   pub cert : Cert
   pub read : ReadsPair files a b pair
@@ -99,8 +118,10 @@ pub record IsDecidedApart (files : FileMap) (a b c : List ℕ) (terms : Terms) (
   pub apart : SaysApart pair cert.body call.before.sink call.after.sink
   pub held : files' ≡ map.insert files c (text cert)
 
--- It said yes, with the same of a yes: the logs lead to settled automata, and no live element subsumes another.
-pub record IsDecidedIncluded (files : FileMap) (a b c : List ℕ) (terms : Terms) (files' : FileMap) (call : Call) : Type 0 where
+-- It said yes, with the same of a yes: the logs lead to settled automata, and no live element
+-- subsumes another.
+pub record IsDecidedIncluded (files : FileMap) (a b c : List ℕ) (terms : Terms) (files' : FileMap)
+    (call : Call) : Type 0 where
   pub pair : Joined
   pub cert : Cert
   pub evidence : YesBody
@@ -113,9 +134,10 @@ pub record IsDecidedIncluded (files : FileMap) (a b c : List ℕ) (terms : Terms
   pub held : files' ≡ map.insert files c (text cert)
   pub printed : Sends (included_text terms.mode) call.before.sink call.after.sink
 
--- It met its limit, with the same of a list of one element more, which keeps all rules of a check: these are different, and of the settled
--- automata that the logs lead to.
-pub record IsDecidedListed (files : FileMap) (a b c : List ℕ) (terms : Terms) (files' : FileMap) (call : Call) : Type 0 where
+-- It met its limit, with the same of a list of one element more, which keeps all rules of a check:
+-- these are different, and of the settled automata that the logs lead to.
+pub record IsDecidedListed (files : FileMap) (a b c : List ℕ) (terms : Terms) (files' : FileMap)
+    (call : Call) : Type 0 where
   pub pair : Joined
   pub cert : Cert
   pub list : ListBody
@@ -127,8 +149,10 @@ pub record IsDecidedListed (files : FileMap) (a b c : List ℕ) (terms : Terms) 
   pub held : files' ≡ map.insert files c (text cert)
   pub printed : Sends (limit_text terms.limit) call.before.sink call.after.sink
 
--- What a status up to 2 shows: 0 an inclusion, 1 a lasso or a word that separates, 2 a list of more elements than the limit.
-pub record ShowsInclude (a b c : List ℕ) (terms : Terms) (call : Call) (files files' : FileMap) : Type 0 where
+-- What a status up to 2 shows: 0 an inclusion, 1 a lasso or a word that separates, 2 a list of more
+-- elements than the limit.
+pub record ShowsInclude (a b c : List ℕ) (terms : Terms) (call : Call)
+    (files files' : FileMap) : Type 0 where
   pub included : call.status ≡ 0 → IsDecidedIncluded files a b c terms files' call
   pub not_included : call.status ≡ 1 → IsDecidedApart files a b c terms files' call
   pub limit_met : call.status ≡ 2 → IsDecidedListed files a b c terms files' call

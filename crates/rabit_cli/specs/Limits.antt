@@ -1,4 +1,5 @@
--- The limits of files, of results, of lists and of games and the usual terms of the program, in numbers. Definitions cite the constants of the code; here is what these are.
+-- The limits of files, of results, of lists and of games and the usual terms of the program, in
+-- numbers. Definitions cite the constants of the code; here is what these are.
 use Rattle.std.specs.Prelude.{◌≡◌, ◌^◌, ℕ}
 use Rattle.auto_core.specs.declared.limits.TheConstants.{MOST_TRIPLES_WITH_A_LETTER}
 use Rattle.ba_format.specs.declared.lines.TheConstants.{TOKEN_LIMIT}
@@ -11,11 +12,13 @@ use Rattle.rabit_replies.specs.declared.files.TheConstants.{FIRST_LIMITS, SECOND
 
 -- The most states, labels and transitions of a file or a result, each by itself.
 abbrev pub limits_of : ℕ → ℕ → ℕ → Limits
-limits_of states labels transitions = record { states = states; labels = labels; transitions = transitions }
+limits_of states labels transitions =
+    record { states = states; labels = labels; transitions = transitions }
 
--- What a first and a second file may have, and a result; the usual lookahead, limit and number of letters; the most bytes of a file
--- (16 MiB of an automaton's, 1 GiB of a certificate's and of a cross relation's, 64 KiB of a list's) the most bytes of a token and the most lines of a list; and the most triples, each with one
--- further letter, of a delayed game with more than one letter.
+-- What a first and a second file may have, and a result; the usual lookahead, limit and number of
+-- letters; the most bytes of a file (16 MiB of an automaton's, 1 GiB of a certificate's and of a
+-- cross relation's, 64 KiB of a list's) the most bytes of a token and the most lines of a list; and
+-- the most triples, each with one further letter, of a delayed game with more than one letter.
 pub record LimitsInNumbers : Type 0 where
   pub first_file : FIRST_LIMITS ≡ limits_of 2048 256 65536
   pub second_file : SECOND_LIMITS ≡ limits_of 512 256 65536

@@ -25,22 +25,25 @@ use Rattle.rabit_replies.specs.Replies.{nothing_to_shrink_reply, IsNo, IsRefused
 -- The second body has what is left of the first one's lasso, or of its word.
 abbrev pub IsShrunkBody : Joined → Body → Body → Type 0
 IsShrunkBody pair (Yes evidence) body = ⊥
-IsShrunkBody pair (NoLasso lasso) body = (left : Lasso) × IsShrunkLasso pair.first pair.second lasso left × (body ≡ NoLasso left)
-IsShrunkBody pair (NoWord word) body = (left : List ℕ) × IsShrunkWord pair.first pair.second word left × (body ≡ NoWord left)
+IsShrunkBody pair (NoLasso lasso) body =
+    (left : Lasso) × IsShrunkLasso pair.first pair.second lasso left × (body ≡ NoLasso left)
+IsShrunkBody pair (NoWord word) body =
+    (left : List ℕ) × IsShrunkWord pair.first pair.second word left × (body ≡ NoWord left)
 IsShrunkBody pair (Listing list) body = ⊥
 
 -- The no of version 1 with this body, whatever the version of the certificate.
 abbrev pub shrunk_no : Cert → Body → Cert
 shrunk_no cert body = record cert { version = 1; body = body }
 
--- The reply to two joined automata and a certificate: it is refused, as by a check; or it is valid, and has nothing to shrink, or what is left is written
--- and printed.
+-- The reply to two joined automata and a certificate: it is refused, as by a check; or it is valid,
+-- and has nothing to shrink, or what is left is written and printed.
 abbrev pub IsShrinkReply : List ℕ → Joined → Cert → Reply → Type 0
 IsShrinkReply name pair cert r =
     IsRefusedReply pair cert r
     ⊎ (KeepsRules pair cert × ¬ IsNo cert.body × (r ≡ nothing_to_shrink_reply))
     ⊎ (KeepsRules pair cert
-    × ((left : Body) × IsShrunkBody pair cert.body left × IsVerdictReply cert.mode pair left (certificate_put name (shrunk_no cert left) ∷ []) r))
+    × ((left : Body) × IsShrunkBody pair cert.body left
+    × IsVerdictReply cert.mode pair left (certificate_put name (shrunk_no cert left) ∷ []) r))
 
 -- The reply to what was read.
 abbrev pub MeansShrink : List ℕ → List Value → Reply → Type 0
@@ -50,8 +53,10 @@ MeansShrink name values r =
     × (values ≡ value.Automaton one ∷ value.Automaton two ∷ value.Certificate cert ∷ [])
     × ((pair : Joined) × IsJoined one two pair × IsShrinkReply name pair cert r)
 
--- The files read as two automata and a valid certificate, of whose lasso or word this is left; with it the certificate is valid too.
-pub record IsShrunkFor (files : FileMap) (a b c : List ℕ) (pair : Joined) (cert : Cert) (left : Body) : Type 0 where
+-- The files read as two automata and a valid certificate, of whose lasso or word this is left; with
+-- it the certificate is valid too.
+pub record IsShrunkFor (files : FileMap) (a b c : List ℕ) (pair : Joined) (cert : Cert)
+    (left : Body) : Type 0 where
   pub read : ReadsPair files a b pair
   pub certificate : ReadsCertificate files c cert
   pub valid : IsValid pair cert
@@ -78,10 +83,13 @@ HoldsShrunkFront files a b c out files' =
 
 -- What it leaves, by its status.
 abbrev pub LeavesShrunk : List ℕ → List ℕ → List ℕ → List ℕ → Call → FileMap → FileMap → Type 0
-LeavesShrunk a b c out = LeavesByStatus (λ before. HoldsShrunk before a b c out) (λ before. HoldsShrunkFront before a b c out)
+LeavesShrunk a b c out =
+    LeavesByStatus (λ before. HoldsShrunk before a b c out) (λ before.
+    HoldsShrunkFront before a b c out)
 
 -- What is left was printed, and is what the written certificate says.
-pub record IsShrunkShown (files : FileMap) (a b c out : List ℕ) (files' : FileMap) (call : Call) : Type 0 where
+pub record IsShrunkShown (files : FileMap) (a b c out : List ℕ) (files' : FileMap)
+    (call : Call) : Type 0 where
   pub pair : Joined
   pub cert : Cert
   pub left : Body
@@ -89,7 +97,8 @@ pub record IsShrunkShown (files : FileMap) (a b c out : List ℕ) (files' : File
   pub apart : SaysApart pair left call.before.sink call.after.sink
   pub held : files' ≡ map.insert files out (text (shrunk_no cert left))
 
--- What a status up to 2 shows: 1 what is left of a lasso or a word and still separates, and 0 and 2 do not come.
+-- What a status up to 2 shows: 1 what is left of a lasso or a word and still separates, and 0 and 2
+-- do not come.
 pub record ShowsShrink (a b c out : List ℕ) (call : Call) (files files' : FileMap) : Type 0 where
   pub shrunk : call.status ≡ 1 → IsShrunkShown files a b c out files' call
   pub no_other : ¬ (call.status ≡ 0) × ¬ (call.status ≡ 2)
@@ -97,10 +106,11 @@ pub record ShowsShrink (a b c out : List ℕ) (call : Call) (files files' : File
 -- The files read as two automata and as a certificate that is valid for them, with such a body.
 abbrev pub ReadsValidCertificate : FileMap → List ℕ → List ℕ → List ℕ → (Body → Type 0) → Type 0
 ReadsValidCertificate files a b c with_such =
-    (pair : Joined) × (cert : Cert) × ReadsPair files a b pair × ReadsCertificate files c cert × IsValid pair cert × with_such cert.body
+    (pair : Joined) × (cert : Cert) × ReadsPair files a b pair × ReadsCertificate files c cert
+    × IsValid pair cert × with_such cert.body
 
--- The status of a result for these files: 1 if the certificate is a valid no, 13 if it is valid and says
--- something else, 5 if it is not valid.
+-- The status of a result for these files: 1 if the certificate is a valid no, 13 if it is valid and
+-- says something else, 5 if it is not valid.
 abbrev pub IsShrinkStatus : FileMap → List ℕ → List ℕ → List ℕ → ℕ → Type 0
 IsShrinkStatus files a b c status =
     (ReadsValidCertificate files a b c IsNo × (status ≡ 1))

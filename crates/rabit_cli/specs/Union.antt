@@ -18,7 +18,8 @@ IsUnionOf mode pair = IsUnion mode pair.first pair.second
 
 -- The reply to two joined automata.
 abbrev pub IsUnionReply : Mode → Joined → Reply → Type 0
-IsUnionReply mode pair r = IsCombinedReply (IsUnionOf mode pair) (IsUnionTooLarge pair.first pair.second) pair.labels r
+IsUnionReply mode pair r =
+    IsCombinedReply (IsUnionOf mode pair) (IsUnionTooLarge pair.first pair.second) pair.labels r
 
 -- The status of a result for these files: 12 if the union is too large, and otherwise 0.
 abbrev pub IsUnionStatus : FileMap → List ℕ → List ℕ → ℕ → Type 0
@@ -30,9 +31,12 @@ MeansUnion mode = MeansCombined (IsUnionReply mode)
 
 -- C accepts just the lassos, in finite mode the words, that one of A and B accepts.
 abbrev pub AcceptsWhatEitherDoes : Mode → Automaton → Automaton → Automaton → Type 0
-AcceptsWhatEitherDoes Buchi A B C = (u v : List ℕ) → AcceptsLasso C u v ↔ (AcceptsLasso A u v ⊎ AcceptsLasso B u v)
-AcceptsWhatEitherDoes Finite A B C = (w : List ℕ) → AcceptsWord C w ↔ (AcceptsWord A w ⊎ AcceptsWord B w)
+AcceptsWhatEitherDoes Buchi A B C =
+    (u v : List ℕ) → AcceptsLasso C u v ↔ (AcceptsLasso A u v ⊎ AcceptsLasso B u v)
+AcceptsWhatEitherDoes Finite A B C =
+    (w : List ℕ) → AcceptsWord C w ↔ (AcceptsWord A w ⊎ AcceptsWord B w)
 
 -- What a status up to 2 shows: 0 the union, and 1 and 2 do not come.
 abbrev pub ShowsUnion : List ℕ → List ℕ → Mode → Call → FileMap → Type 0
-ShowsUnion a b mode = ShowsCombined a b (IsUnionOf mode) (λ pair. AcceptsWhatEitherDoes mode pair.first pair.second)
+ShowsUnion a b mode =
+    ShowsCombined a b (IsUnionOf mode) (λ pair. AcceptsWhatEitherDoes mode pair.first pair.second)

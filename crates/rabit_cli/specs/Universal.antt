@@ -18,7 +18,14 @@ loops labels = map (λ a. trans 0 a 0) (range_with_len 0 labels)
 
 -- One accepting initial state with these loops: it accepts everything over its labels.
 abbrev pub all_loops : ℕ → Automaton
-all_loops labels = record { states = 1; labels = labels; initial = 0; transitions = loops labels; accepting = 0 ∷ [] }
+all_loops labels =
+    record {
+      states = 1;
+      labels = labels;
+      initial = 0;
+      transitions = loops labels;
+      accepting = 0 ∷ [];
+    }
 
 -- The lasso's letters are labels of the automaton, and its loop is not empty.
 abbrev pub IsLassoOver : Automaton → List ℕ → List ℕ → Type 0
@@ -29,8 +36,8 @@ abbrev pub AcceptsAll : Mode → Automaton → Type 0
 AcceptsAll Buchi A = (u v : List ℕ) → IsLassoOver A u v → AcceptsLasso A u v
 AcceptsAll Finite A = (w : List ℕ) → AreLabels A.labels w → AcceptsWord A w
 
--- An automaton is universal if that with a loop for each of its labels is included in it, and a lasso or a word over its labels that it does not
--- accept shows that it is not.
+-- An automaton is universal if that with a loop for each of its labels is included in it, and a
+-- lasso or a word over its labels that it does not accept shows that it is not.
 abbrev pub universality : Property
 universality = record {
   name = codes "universal";
@@ -38,6 +45,7 @@ universality = record {
   made = λ one. written (all_loops (length one.labels)) one.labels;
   joins = λ one other. IsJoined other one;
   holds = AcceptsAll;
-  lasso_against = λ A lasso. IsLassoOver A lasso.prefix lasso.turn × (AcceptsLasso A lasso.prefix lasso.turn → ⊥);
+  lasso_against = λ A lasso.
+      IsLassoOver A lasso.prefix lasso.turn × (AcceptsLasso A lasso.prefix lasso.turn → ⊥);
   word_against = λ A word. AreLabels A.labels word × (AcceptsWord A word → ⊥);
 }

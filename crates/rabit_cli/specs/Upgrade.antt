@@ -23,26 +23,36 @@ upgrade_inputs c = certificate_file c ∷ []
 
 -- The reply to a certificate: that of version 2 is written, and that this is done is said.
 abbrev pub upgrade_reply : List ℕ → Cert → Reply
-upgrade_reply name cert = reply_with status.Done upgrade_done_text (certificate_put name (upgraded cert) ∷ [])
+upgrade_reply name cert =
+    reply_with status.Done upgrade_done_text (certificate_put name (upgraded cert) ∷ [])
 
 -- The reply to what was read.
 abbrev pub MeansUpgrade : List ℕ → List Value → Reply → Type 0
-MeansUpgrade name values r = (cert : Cert) × (values ≡ value.Certificate cert ∷ []) × (r ≡ upgrade_reply name cert)
+MeansUpgrade name values r =
+    (cert : Cert) × (values ≡ value.Certificate cert ∷ []) × (r ≡ upgrade_reply name cert)
 
--- The file reads as a certificate, the name holds the whole text of it in version 2, and all other files are as before.
+-- The file reads as a certificate, the name holds the whole text of it in version 2, and all other
+-- files are as before.
 abbrev pub HoldsUpgraded : FileMap → List ℕ → List ℕ → FileMap → Type 0
-HoldsUpgraded files c out files' = (cert : Cert) × ReadsCertificate files c cert × (files' ≡ map.insert files out (text (upgraded cert)))
+HoldsUpgraded files c out files' =
+    (cert : Cert) × ReadsCertificate files c cert
+    × (files' ≡ map.insert files out (text (upgraded cert)))
 
 -- The name holds a front of that text, or what it held before, and all other files are as before.
 abbrev pub HoldsUpgradedFront : FileMap → List ℕ → List ℕ → FileMap → Type 0
-HoldsUpgradedFront files c out files' = (cert : Cert) × ReadsCertificate files c cert × IsCutShort files (certificate_put out (upgraded cert) ∷ []) files'
+HoldsUpgradedFront files c out files' =
+    (cert : Cert) × ReadsCertificate files c cert
+    × IsCutShort files (certificate_put out (upgraded cert) ∷ []) files'
 
 -- What it leaves, by its status.
 abbrev pub LeavesUpgraded : List ℕ → List ℕ → Call → FileMap → FileMap → Type 0
-LeavesUpgraded c out = LeavesByStatus (λ before. HoldsUpgraded before c out) (λ before. HoldsUpgradedFront before c out)
+LeavesUpgraded c out =
+    LeavesByStatus (λ before. HoldsUpgraded before c out) (λ before.
+    HoldsUpgradedFront before c out)
 
 -- The certificate was written in version 2, and that was said.
-pub record IsUpgradedShown (files : FileMap) (c out : List ℕ) (files' : FileMap) (call : Call) : Type 0 where
+pub record IsUpgradedShown (files : FileMap) (c out : List ℕ) (files' : FileMap)
+    (call : Call) : Type 0 where
   pub held : HoldsUpgraded files c out files'
   pub printed : Sends upgrade_done_text call.before.sink call.after.sink
 
@@ -54,4 +64,5 @@ pub record ShowsUpgrade (c out : List ℕ) (call : Call) (files files' : FileMap
 -- The status of a result for these files: 0 if the file reads as a certificate, 5 if it does not.
 abbrev pub IsUpgradeStatus : FileMap → List ℕ → ℕ → Type 0
 IsUpgradeStatus files c status =
-    (((cert : Cert) × ReadsCertificate files c cert) × (status ≡ 0)) ⊎ (((cert : Cert) → ReadsCertificate files c cert → ⊥) × (status ≡ 5))
+    (((cert : Cert) × ReadsCertificate files c cert) × (status ≡ 0))
+    ⊎ (((cert : Cert) → ReadsCertificate files c cert → ⊥) × (status ≡ 5))

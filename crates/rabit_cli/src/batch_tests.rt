@@ -65,8 +65,8 @@ fn lists_of_no_questions_and_of_names_without_files(rt: HostRuntime) -> Result<(
     Ok(())
 }
 
-/// Whether the batch ends with status 7 and just this text where the sink refuses this call, and the shelf has then still to begin `A` before
-/// the call that it refuses.
+/// Whether the batch ends with status 7 and just this text where the sink refuses this call, and
+/// the shelf has then still to begin `A` before the call that it refuses.
 fn stops(
     alloc: Global,
     files: &[(&str, &str)],
@@ -83,7 +83,8 @@ fn stops(
 fn no_file_is_begun_after_a_refused_line(rt: HostRuntime) -> Result<(), Fail> {
     let alloc = rt.alloc();
     let files = [("A", ONE_A), ("L", "A A C\nA A D\nA A C\n")];
-    // the list is read in three calls, and each question makes seven; the first `take` of the question after the refused line would fail
+    // the list is read in three calls, and each question makes seven; the first `take` of the
+    // question after the refused line would fail
     let rows = [(0, 11, ""), (1, 18, "1 0\n")];
     for (refused, fails, printed) in rows {
         assert!(rt; stops(alloc, &files, fails, refused, printed)?);
@@ -95,7 +96,8 @@ fn no_file_is_begun_after_a_refused_line(rt: HostRuntime) -> Result<(), Fail> {
 fn a_file_with_a_fault_is_begun_by_each_question(rt: HostRuntime) -> Result<(), Fail> {
     let alloc = rt.alloc();
     let files = [("A", "[0]\na,[0]\n"), ("L", "A A C\nA A D\n")];
-    // the list and the first question's file are read in three calls each; the second question's begin fails
+    // the list and the first question's file are read in three calls each; the second question's
+    // begin fails
     assert!(rt; leaves(alloc, &files, &[6], &BATCH, &[], (0, "1 4\n2 6\n"), &[])?);
     Ok(())
 }

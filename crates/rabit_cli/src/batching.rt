@@ -58,25 +58,31 @@ impl<'a> Work for Asking<'a> {
     }
 }
 
-/// Carries out one question as `include` with its three names and nothing else named, says nothing, and answers the status. The names
-/// are not empty, and have only bytes from 0x21 to 0x7E.
+/// Carries out one question as `include` with its three names and nothing else named, says nothing,
+/// and answers the status. The names are not empty, and have only bytes from 0x21 to 0x7E.
 pub fn answer_one<H: Shelf>(alloc: Global, question: &Question, shelf: &mut H) -> u8
     requires { is_question (line_of question.now) ≡ true }
 
-    // It came to an end, and this is its status: where the shelf tells its files the right one, or a fault of the outside or want of memory. By the
-    // counts of calls just the files were begun that the status needs, each once and in turn, and each file of the reply was put once, or up to one that
-    // was refused; each fault has its count, and at 8 no file changed.
+    // It came to an end, and this is its status: where the shelf tells its files the right one, or
+    // a fault of the outside or want of memory. By the counts of calls just the files were begun
+    // that the status needs, each once and in turn, and each file of the reply was put once, or up
+    // to one that was refused; each fault has its count, and at 8 no file changed.
     ensures asked { IsAskedOf question.now result (H.seen shelf.old) (H.seen shelf.new) }
     ensures status { IsQuestionStatus result }
 
-    // What a status up to 2 shows: an inclusion, a lasso that separates, or a list past the limit, with the certificate's file.
+    // What a status up to 2 shows: an inclusion, a lasso that separates, or a list past the limit,
+    // with the certificate's file.
     ensures shows { ShowsQuestion question.now result (H.seen shelf.old) (H.seen shelf.new) }
 
-    // The right reply, whatever it is, has its status answered and its files written, unless a call of the shelf failed or memory was refused.
-    ensures exact { IfSome (H.seen shelf.old).files (AnswersQuestion question.now result (H.seen shelf.old) (H.seen shelf.new)) }
+    // The right reply, whatever it is, has its status answered and its files written, unless a call
+    // of the shelf failed or memory was refused.
+    ensures exact { IfSome (H.seen shelf.old).files
+        (AnswersQuestion question.now result (H.seen shelf.old) (H.seen shelf.new)) }
 
     // What the files are afterwards.
-    ensures files { BeforeAndAfter (H.seen shelf.old).files (H.seen shelf.new).files (LeavesDecided question.now.first question.now.second question.now.cert (usual_terms Buchi) (unsaid result (H.seen shelf.old) (H.seen shelf.new))) }
+    ensures files { BeforeAndAfter (H.seen shelf.old).files (H.seen shelf.new).files
+        (LeavesDecided question.now.first question.now.second question.now.cert (usual_terms Buchi)
+        (unsaid result (H.seen shelf.old) (H.seen shelf.new))) }
 {
     let asking = Asking { question };
     rabit_frame::carry_out_unsaid(alloc, &asking, shelf)
@@ -100,8 +106,9 @@ fn set_line(line: &mut Vec<u8>, number: u32, status: u8)
     line.push_reserved(b'\n');
 }
 
-/// Carries out the questions, the first with this number, and gives the line of each before the next is begun. Answers 0, or 7 where the
-/// sink refused a line: then no further question is carried out. It takes no memory of its own: the line has room for 15 bytes.
+/// Carries out the questions, the first with this number, and gives the line of each before the
+/// next is begun. Answers 0, or 7 where the sink refused a line: then no further question is
+/// carried out. It takes no memory of its own: the line has room for 15 bytes.
 fn carry_each<H: Shelf, K: Sink>(
     alloc: Global,
     questions: &[Question],

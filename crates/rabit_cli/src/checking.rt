@@ -28,7 +28,8 @@ pub fn slots<'a>(
     second: &'a str,
     cert: &'a str,
 ) -> Result<List<Slot<'a>>, Memory>
-    ensures { IfOk result (λ slots. slots ≡ check_inputs first.entry.now second.entry.now cert.entry.now) }
+    ensures { IfOk
+        result (λ slots. slots ≡ check_inputs first.entry.now second.entry.now cert.entry.now) }
 {
     let mut slots = List::new(alloc);
     slots.push(first_slot(first))?;
@@ -55,7 +56,9 @@ fn checked<'a>(alloc: Global, one: &Named, two: &Named, cert: &Cert) -> Result<R
     requires one { IsWithinLimits FIRST_LIMITS one.now }
     requires two { IsWithinLimits SECOND_LIMITS two.now }
     requires well_formed { WellFormed cert.now }
-    ensures { IfOk result (λ reply. (pair : AJoined) × IsJoined one.now two.now pair × Concludes pair cert.now reply) }
+    ensures { IfOk
+        result (λ reply.
+        (pair : AJoined) × IsJoined one.now two.now pair × Concludes pair cert.now reply) }
 {
     let pair = ba_format::join(alloc, one, two)?;
     concluded(alloc, &pair, cert)

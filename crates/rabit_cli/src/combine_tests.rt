@@ -1,4 +1,5 @@
-//! The union and the intersection of two automata in files in memory: what they print, and what they leave.
+//! The union and the intersection of two automata in files in memory: what they print, and what
+//! they leave.
 
 use crate::fault_tests::many_lines;
 use crate::tests::{ONLY_B, USAGE, answers, unanswered};

@@ -224,7 +224,10 @@ impl<'a> Command<'a> {
 impl<'a> Work for Command<'a> {
     ghost request = { λ c. request_of (asked_by c.words.now) };
 
-    ghost is_fit = { λ c. IfOk c.asked (λ asked. (option_map told asked ≡ asked_by c.words.now) × IfSome asked (λ q. IsProper (told q) × IsSingle (Some (told q)))) };
+    ghost is_fit = { λ c.
+        IfOk c.asked (λ asked.
+        (option_map told asked ≡ asked_by c.words.now)
+        × IfSome asked (λ q. IsProper (told q) × IsSingle (Some (told q)))) };
 
     fn slots(&self, alloc: Global) -> Result<List<Slot<'_>>, Memory> {
         match &self.asked {

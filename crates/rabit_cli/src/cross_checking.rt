@@ -38,7 +38,9 @@ pub fn slots<'a>(
     second: &'a str,
     relation: &'a str,
 ) -> Result<List<Slot<'a>>, Memory>
-    ensures { IfOk result (λ slots. slots ≡ cross_check_inputs first.entry.now second.entry.now relation.entry.now) }
+    ensures { IfOk
+        result (λ slots.
+        slots ≡ cross_check_inputs first.entry.now second.entry.now relation.entry.now) }
 {
     let mut slots = List::new(alloc);
     slots.push(first_slot(first))?;
@@ -90,7 +92,9 @@ fn checked<'a>(alloc: Global, one: &Named, two: &Named, cross: &Cross) -> Result
     requires one { IsWithinLimits FIRST_LIMITS one.now }
     requires two { IsWithinLimits SECOND_LIMITS two.now }
     requires formed { CrossFormed cross.now }
-    ensures { IfOk result (λ reply. (pair : AJoined) × IsJoined one.now two.now pair × ConcludesCross pair cross.now reply) }
+    ensures { IfOk
+        result (λ reply.
+        (pair : AJoined) × IsJoined one.now two.now pair × ConcludesCross pair cross.now reply) }
 {
     let pair = joined(alloc, one, two)?;
     concluded(alloc, &pair, cross)

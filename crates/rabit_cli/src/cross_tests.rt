@@ -1,4 +1,5 @@
-//! Simulations of one automaton by another: what is printed, what is left, and that a check accepts it.
+//! Simulations of one automaton by another: what is printed, what is left, and that a check accepts
+//! it.
 
 use crate::include_tests::leaves;
 use std::test::Fail;

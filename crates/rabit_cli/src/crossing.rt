@@ -29,7 +29,10 @@ fn unrelated<'a>(alloc: Global) -> Result<Reply<'a>, Memory>
 
 /// The reply that it has that pair: its text is to be written under the name.
 fn related<'a>(alloc: Global, name: &'a str, cross: &Cross) -> Result<Reply<'a>, Memory>
-    ensures { IfOk result (λ reply. reply ≡ reply_with Status.Done by_simulation_text (cross_put name.entry.now cross.now ∷ [])) }
+    ensures { IfOk
+        result (λ reply.
+        reply ≡ reply_with Status.Done by_simulation_text
+        (cross_put name.entry.now cross.now ∷ [])) }
 {
     let bytes = write_cross(alloc, cross)?;
     let mut puts = List::new(alloc);
@@ -67,7 +70,10 @@ fn crossed<'a>(
     requires two { IsWithinLimits SECOND_LIMITS two.now }
     requires look_from { 1 ≤ look }
     requires look_upto { look ≤ 6 }
-    ensures { IfOk result (λ reply. (pair : AJoined) × IsJoined one.now two.now pair × IsCrossReply name.entry.now look pair reply) }
+    ensures { IfOk
+        result (λ reply.
+        (pair : AJoined) × IsJoined one.now two.now pair
+        × IsCrossReply name.entry.now look pair reply) }
 {
     let pair = joined(alloc, one, two)?;
     answered(alloc, name, look, &pair)

@@ -29,7 +29,8 @@ fn exchanged(pair: Joined) -> Joined
     }
 }
 
-/// The answer for the two automata. Its certificate is checked, and no rule of a check is broken by it.
+/// The answer for the two automata. Its certificate is checked, and no rule of a check is broken by
+/// it.
 fn answered(alloc: Global, pair: &Joined) -> Result<Cert, Memory>
     requires { CanDecide pair.now }
     ensures { IfOk result (IsAnswer pair.now drill_terms) }
@@ -80,7 +81,10 @@ fn finding(alloc: Global, body: &Body) -> Result<List<u8>, Memory>
 
 /// How large both automata are.
 fn sizes(alloc: Global, pair: &Joined) -> Result<List<u8>, Memory>
-    ensures { IfOk result (λ text. text ≡ size_line (codes "first") pair.now.first ++ size_line (codes "second") pair.now.second) }
+    ensures { IfOk
+        result (λ text.
+        text ≡ size_line (codes "first") pair.now.first
+        ++ size_line (codes "second") pair.now.second) }
 {
     let mut text = size(alloc, "first", &pair.first)?;
     append(&mut text, size(alloc, "second", &pair.second)?.as_slice())?;
@@ -105,13 +109,16 @@ fn add_finding(
     pair: &Joined,
 ) -> Result<(), Memory>
     requires { CanDecide pair.now }
-    ensures { OnOk result ((cert : ACert) × IsAnswer pair.now drill_terms cert × (text.new ≡ (text.old ++ words.now) ++ finding cert.body)) }
+    ensures { OnOk result
+        ((cert : ACert) × IsAnswer pair.now drill_terms cert
+        × (text.new ≡ (text.old ++ words.now) ++ finding cert.body)) }
 {
     let cert = answered(alloc, pair)?;
     add_line(alloc, text, words, &cert.body)
 }
 
-/// The reply: the two automata are drawn, both inclusions between them are decided, and what was found is said.
+/// The reply: the two automata are drawn, both inclusions between them are decided, and what was
+/// found is said.
 pub fn reply<'a>(alloc: Global, drill: Drill) -> Result<Reply<'a>, Memory>
     requires { IsInBounds drill }
     ensures { IfOk result (λ reply. (values : Items Value) → MeansDrill drill values reply) }

@@ -30,7 +30,8 @@ fn of_one<'a>(
     one: &Named,
 ) -> Result<Reply<'a>, Memory>
     requires { IsWithinLimits FIRST_LIMITS one.now }
-    ensures { IfOk result (IsPropertyDecidedFor emptiness made_name.entry.now certificate.entry.now mode one.now) }
+    ensures { IfOk result
+        (IsPropertyDecidedFor emptiness made_name.entry.now certificate.entry.now mode one.now) }
 {
     let bytes = empty_text(alloc)?;
     let other = read_back(alloc, bytes.as_slice())?;
@@ -51,7 +52,8 @@ pub fn reply<'a>(
     values: &[Value],
 ) -> Result<Reply<'a>, Memory>
     requires { (a : Items ℕ) × AreOfKinds (property_inputs emptiness a) values.now }
-    ensures { IfOk result (MeansProperty emptiness made_name.entry.now certificate.entry.now mode values.now) }
+    ensures { IfOk result
+        (MeansProperty emptiness made_name.entry.now certificate.entry.now mode values.now) }
 {
     match values {
         [Value::Automaton(one)] => of_one(alloc, made_name, certificate, mode, one),

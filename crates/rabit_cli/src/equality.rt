@@ -86,7 +86,8 @@ fn answered(alloc: Global, pair: &Joined) -> Result<Cert, Memory>
     decide::include(alloc, pair, Mode::Buchi, USUAL_LOOK, USUAL_LIMIT)
 }
 
-/// The reply by what both answers say together. The labels and the body are those of the second answer.
+/// The reply by what both answers say together. The labels and the body are those of the second
+/// answer.
 fn both_reply<'a>(
     alloc: Global,
     said: Both,
@@ -121,7 +122,9 @@ fn both_puts<'a>(
     cert: &Cert,
     converse: &Cert,
 ) -> Result<List<Put<'a>>, Memory>
-    ensures { IfOk result (λ puts. puts ≡ both_puts certificate.entry.now converse_name.entry.now cert.now converse.now) }
+    ensures { IfOk
+        result (λ puts.
+        puts ≡ both_puts certificate.entry.now converse_name.entry.now cert.now converse.now) }
 {
     let mut puts = List::new(alloc);
     puts.push(put_of(alloc, certificate, cert)?)?;
@@ -139,7 +142,11 @@ fn reply_to_answers<'a>(
     converse: &Cert,
 ) -> Result<Reply<'a>, Memory>
     requires { HasLettersOf exchanged.now.labels converse.now.body }
-    ensures { IfOk result (λ reply. reply ≡ both_reply (said_by_both (form_of cert.now.body) (form_of converse.now.body)) exchanged.now.labels converse.now.body (both_puts certificate.entry.now converse_name.entry.now cert.now converse.now)) }
+    ensures { IfOk
+        result (λ reply.
+        reply ≡ both_reply (said_by_both (form_of cert.now.body) (form_of converse.now.body))
+        exchanged.now.labels converse.now.body
+        (both_puts certificate.entry.now converse_name.entry.now cert.now converse.now)) }
 {
     let puts = both_puts(alloc, certificate, converse_name, cert, converse)?;
     both_reply(
@@ -160,7 +167,12 @@ fn of_exchanged<'a>(
     cert: &Cert,
 ) -> Result<Reply<'a>, Memory>
     requires { CanDecide exchanged.now }
-    ensures { IfOk result (λ reply. (converse : ACert) × IsAnswer exchanged.now (usual_terms Buchi) converse × (reply ≡ both_reply (said_by_both (form_of cert.now.body) (form_of converse.body)) exchanged.now.labels converse.body (both_puts certificate.entry.now converse_name.entry.now cert.now converse))) }
+    ensures { IfOk
+        result (λ reply.
+        (converse : ACert) × IsAnswer exchanged.now (usual_terms Buchi) converse
+        × (reply ≡ both_reply (said_by_both (form_of cert.now.body) (form_of converse.body))
+        exchanged.now.labels converse.body
+        (both_puts certificate.entry.now converse_name.entry.now cert.now converse))) }
 {
     let converse = answered(alloc, exchanged)?;
     reply_to_answers(
@@ -184,13 +196,15 @@ fn of_both<'a>(
 ) -> Result<Reply<'a>, Memory>
     requires one { IsWithinLimits SECOND_LIMITS one.now }
     requires two { IsWithinLimits SECOND_LIMITS two.now }
-    ensures { IfOk result (IsBothReply certificate.entry.now converse_name.entry.now one.now two.now cert.now) }
+    ensures { IfOk result
+        (IsBothReply certificate.entry.now converse_name.entry.now one.now two.now cert.now) }
 {
     let exchanged = joined(alloc, two, one)?;
     of_exchanged(alloc, certificate, converse_name, &exchanged, cert)
 }
 
-/// The reply where the first is not included in the second: the certificate of that alone is written.
+/// The reply where the first is not included in the second: the certificate of that alone is
+/// written.
 fn first_apart<'a>(
     alloc: Global,
     certificate: &'a str,
@@ -198,7 +212,8 @@ fn first_apart<'a>(
     cert: &Cert,
 ) -> Result<Reply<'a>, Memory>
     requires { HasLettersOf pair.now.labels cert.now.body }
-    ensures { IfOk result (λ reply. reply ≡ first_apart_reply certificate.entry.now pair.now cert.now) }
+    ensures { IfOk
+        result (λ reply. reply ≡ first_apart_reply certificate.entry.now pair.now cert.now) }
 {
     let text = apart_text(alloc, "first not in second\n", &pair.labels, &cert.body)?;
     let mut puts = List::new(alloc);
@@ -218,7 +233,8 @@ fn of_pair<'a>(
     requires one { IsWithinLimits SECOND_LIMITS one.now }
     requires two { IsWithinLimits SECOND_LIMITS two.now }
     requires can { CanDecide pair.now }
-    ensures { IfOk result (IsEqualReply certificate.entry.now converse_name.entry.now one.now two.now pair.now) }
+    ensures { IfOk result
+        (IsEqualReply certificate.entry.now converse_name.entry.now one.now two.now pair.now) }
 {
     let cert = answered(alloc, pair)?;
     if is_no(&cert.body) {
@@ -238,7 +254,10 @@ fn compared<'a>(
 ) -> Result<Reply<'a>, Memory>
     requires one { IsWithinLimits SECOND_LIMITS one.now }
     requires two { IsWithinLimits SECOND_LIMITS two.now }
-    ensures { IfOk result (λ reply. (pair : AJoined) × IsJoined one.now two.now pair × IsEqualReply certificate.entry.now converse_name.entry.now one.now two.now pair reply) }
+    ensures { IfOk
+        result (λ reply.
+        (pair : AJoined) × IsJoined one.now two.now pair
+        × IsEqualReply certificate.entry.now converse_name.entry.now one.now two.now pair reply) }
 {
     let pair = joined(alloc, one, two)?;
     of_pair(alloc, certificate, converse_name, one, two, &pair)

@@ -1,4 +1,5 @@
-//! Whether two automata in files in memory accept the same: what is printed, and which certificates are left.
+//! Whether two automata in files in memory accept the same: what is printed, and which certificates
+//! are left.
 
 use crate::include_tests::{leaves, says};
 use crate::shrink_tests::{begins, shelf_of};
@@ -8,7 +9,8 @@ use std::test::Fail;
 
 const ONE_A: &str = "[0]\na,[0]->[0]\n[0]\n";
 
-/// The two letters lead from the seven states to these in each order, so that a search meets its limit.
+/// The two letters lead from the seven states to these in each order, so that a search meets its
+/// limit.
 const ORDERS: &str =
     "[0]\na,[0]->[1]\na,[1]->[2]\na,[2]->[3]\na,[3]->[4]\na,[4]->[5]\na,[5]->[6]\na,[6]->[0]\nb,[0]->[1]\nb,[1]->[0]\nb,[2]->[2]\nb,[3]->[3]\nb,[4]->[4]\nb,[5]->[5]\nb,[6]->[6]\n[0]\n";
 
@@ -41,7 +43,8 @@ fn failing_calls_of_a_comparison_are_told(rt: HostRuntime) -> Result<(), Fail> {
     Ok(())
 }
 
-/// Whether the seven states and the second automaton are compared with this status and just this text, and the two certificates begin so.
+/// Whether the seven states and the second automaton are compared with this status and just this
+/// text, and the two certificates begin so.
 fn compares(
     alloc: Global,
     second: &str,

@@ -83,8 +83,8 @@ pub(crate) fn takes_next(shelf: &mut MemShelf, name: &str) -> bool {
     shelf.begin(name) == Ok(()) && shelf.take(&mut buf) == Err(Failed)
 }
 
-/// Whether the fault of the first file is told before the second is begun: each file is read in three calls, so the fifth call, which would fail,
-/// is the first `take` of the second file.
+/// Whether the fault of the first file is told before the second is begun: each file is read in
+/// three calls, so the fifth call, which would fail, is the first `take` of the second file.
 fn ends_at_once(alloc: Global, files: &[(&str, &str)], words: &[&str]) -> Result<bool, Memory> {
     let mut shelf = shelf_of(alloc, files, &[4])?;
     let (status, sent) = says(alloc, words, &mut shelf, &[], "file 1 line 1: Shape\n")?;
@@ -137,7 +137,8 @@ fn the_limits_of_an_automaton_are_told(rt: HostRuntime) -> Result<(), Fail> {
     Ok(())
 }
 
-/// How many states and labels the text has within these limits, or its fault; none where it was not read.
+/// How many states and labels the text has within these limits, or its fault; none where it was not
+/// read.
 fn counts_in(alloc: Global, text: &[u8], limits: &Limits) -> Option<Result<(u32, u32), BaFault>> {
     if text.len() > 1_000_000 {
         return None;

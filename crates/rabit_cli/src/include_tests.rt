@@ -1,4 +1,5 @@
-//! The decision of an inclusion on files in memory: what it prints, the certificate that it leaves, and what a check says of that.
+//! The decision of an inclusion on files in memory: what it prints, the certificate that it leaves,
+//! and what a check says of that.
 
 use crate::shrink_tests::{holds, shelf_of};
 use crate::tests::words_of;
@@ -52,7 +53,8 @@ pub(crate) fn holds_all(alloc: Global, shelf: &mut MemShelf, texts: &[(&str, &st
     true
 }
 
-/// Whether the words on files with room for more end with this status and just this text, and leave just these texts under their names.
+/// Whether the words on files with room for more end with this status and just this text, and leave
+/// just these texts under their names.
 pub(crate) fn leaves(
     alloc: Global,
     files: &[(&str, &str)],
@@ -69,8 +71,8 @@ pub(crate) fn leaves(
     Ok(ended == status && sent && held)
 }
 
-/// Whether these words, one after the other on the same files, end each with its status and just its text, where the sink refuses these calls, and
-/// leave just these texts under these names.
+/// Whether these words, one after the other on the same files, end each with its status and just
+/// its text, where the sink refuses these calls, and leave just these texts under these names.
 pub(crate) fn says_in_turn(
     alloc: Global,
     files: &[(&str, &str)],
@@ -86,7 +88,8 @@ pub(crate) fn says_in_turn(
     Ok(holds_all(alloc, &mut shelf, left))
 }
 
-/// Whether a decision of whether the automaton is included in itself ends so, and a check after it says the same, or that its own read failed.
+/// Whether a decision of whether the automaton is included in itself ends so, and a check after it
+/// says the same, or that its own read failed.
 fn includes(
     alloc: Global,
     text: &str,
@@ -130,7 +133,8 @@ fn failing_calls_of_a_decision_are_told(rt: HostRuntime) -> Result<(), Fail> {
     Ok(())
 }
 
-/// Whether a decision of whose calls this one fails ends so, with both automata as they were and no certificate.
+/// Whether a decision of whose calls this one fails ends so, with both automata as they were and no
+/// certificate.
 fn changes_none(alloc: Global, call: u64, told: (u8, &str)) -> Result<bool, Memory> {
     let files = [("A", ONE_A), ("B", ONE_A)];
     let mut shelf = shelf_of(alloc, &files, &[call])?;

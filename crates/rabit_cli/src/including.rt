@@ -41,7 +41,8 @@ pub struct AskedInclude {
     pub look: u32,
     /// The most elements of the search, from 1 to 100,000.
     pub limit: u32,
-    /// How many letters are asked for in the delayed games, from 1 to 4, with a certificate of version 2; None asks for one of version 1.
+    /// How many letters are asked for in the delayed games, from 1 to 4, with a certificate of
+    /// version 2; None asks for one of version 1.
     pub letters: Option<u32>,
 }
 
@@ -78,7 +79,9 @@ pub(crate) fn reply_to_answer<'a>(
     cert: &Cert,
 ) -> Result<Reply<'a>, Memory>
     requires { HasLettersOf pair.now.labels cert.now.body }
-    ensures { IfOk result (IsVerdictReply mode pair.now cert.now.body (certificate_put name.entry.now cert.now ∷ [])) }
+    ensures { IfOk result
+        (IsVerdictReply mode pair.now cert.now.body
+        (certificate_put name.entry.now cert.now ∷ [])) }
 {
     let mut puts = List::new(alloc);
     puts.push(put_of(alloc, name, cert)?)?;
@@ -113,7 +116,10 @@ fn included<'a>(
     requires two { IsWithinLimits SECOND_LIMITS two.now }
     requires bounded { AreBounded (terms_of_asked asked) }
     requires limit_from { 1 ≤ asked.limit }
-    ensures { IfOk result (λ reply. (pair : AJoined) × IsJoined one.now two.now pair × IsDecided name.entry.now (terms_of_asked asked) pair reply) }
+    ensures { IfOk
+        result (λ reply.
+        (pair : AJoined) × IsJoined one.now two.now pair
+        × IsDecided name.entry.now (terms_of_asked asked) pair reply) }
 {
     let pair = joined(alloc, one, two)?;
     decided(alloc, name, asked, &pair)

@@ -1,9 +1,11 @@
-//! What the commands have to do with one another, and what limits and usual terms are in numbers: each law is the contract of a function that does nothing.
+//! What the commands have to do with one another, and what limits and usual terms are in numbers:
+//! each law is the contract of a function that does nothing.
 
 ghost use Rattle.rabit_cli.specs.Laws.{CheckAgrees, IncludeIsChecked, AnswersAreAccepted, CheckAgreesOnUpgrade, UpgradeIsChecked, CrossIsChecked, CrossRelationsAreAccepted, QuestionsShowInTurn, EmptyTextAcceptsNothing, UniversalTextAcceptsAll, EmptyIsChecked, UniversalIsChecked};
 ghost use Rattle.rabit_cli.specs.Limits.{LimitsInNumbers};
 
-/// A check of the answer that a decision wrote under a name of its own says what the decision said, where the file has at most 1 GiB.
+/// A check of the answer that a decision wrote under a name of its own says what the decision said,
+/// where the file has at most 1 GiB.
 pub fn check_agrees()
     ensures { CheckAgrees }
 {}
@@ -13,7 +15,8 @@ pub fn include_is_checked()
     ensures { IncludeIsChecked }
 {}
 
-/// A check accepts each answer for its two automata, wherever a file of at most 1 GiB holds its text.
+/// A check accepts each answer for its two automata, wherever a file of at most 1 GiB holds its
+/// text.
 pub fn answers_are_accepted()
     ensures { AnswersAreAccepted }
 {}
@@ -33,12 +36,14 @@ pub fn cross_is_checked()
     ensures { CrossIsChecked }
 {}
 
-/// `cross-check` accepts each greatest cross relation that has the pair of the initial states, wherever a file of at most 1 GiB holds its text.
+/// `cross-check` accepts each greatest cross relation that has the pair of the initial states,
+/// wherever a file of at most 1 GiB holds its text.
 pub fn cross_relations_are_accepted()
     ensures { CrossRelationsAreAccepted }
 {}
 
-/// Of the questions of a batch each status up to 2 shows what that of `include` does, of the files that the questions before it have left.
+/// Of the questions of a batch each status up to 2 shows what that of `include` does, of the files
+/// that the questions before it have left.
 pub fn questions_show_in_turn()
     ensures { QuestionsShowInTurn }
 {}
@@ -53,12 +58,14 @@ pub fn universal_text_accepts_all()
     ensures { UniversalTextAcceptsAll }
 {}
 
-/// A check of an automaton, of the empty one that was made for it and of the certificate answers with the status that `empty` had.
+/// A check of an automaton, of the empty one that was made for it and of the certificate answers
+/// with the status that `empty` had.
 pub fn empty_is_checked()
     ensures { EmptyIsChecked }
 {}
 
-/// A check of the universal automaton that was made for another, of that and of the certificate answers with the status that `universal` had.
+/// A check of the universal automaton that was made for another, of that and of the certificate
+/// answers with the status that `universal` had.
 pub fn universal_is_checked()
     ensures { UniversalIsChecked }
 {}

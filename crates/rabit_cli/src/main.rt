@@ -1,5 +1,5 @@
-//! The program `rabit`: decides Büchi inclusion, emptiness and universality, checks and shortens certificates, and reduces, unites and intersects
-//! automata, over files.
+//! The program `rabit`: decides Büchi inclusion, emptiness and universality, checks and shortens
+//! certificates, and reduces, unites and intersects automata, over files.
 #![tactic(auto)]
 
 mod batching;

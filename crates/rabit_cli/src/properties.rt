@@ -1,4 +1,5 @@
-//! What `empty` and `universal` have in common: an automaton is read and another is made, and the one's inclusion in the other is decided.
+//! What `empty` and `universal` have in common: an automaton is read and another is made, and the
+//! one's inclusion in the other is decided.
 
 ghost use Rattle.std.specs.Prelude.{◌≡◌, ◌≤◌, ◌<◌, ◌^◌, ◌++◌, ◌∷◌, [], length, All, None, IfOk, OnOk, codes};
 ghost use Rattle.ba_format.specs.Faults.{fault_of};
@@ -134,7 +135,9 @@ fn puts_of<'a>(
     certificate: &'a str,
     cert: &Cert,
 ) -> Result<List<Put<'a>>, Memory>
-    ensures { IfOk result (λ puts. puts ≡ property_puts made.entry.name made.entry.bytes certificate.entry.now cert.now) }
+    ensures { IfOk
+        result (λ puts.
+        puts ≡ property_puts made.entry.name made.entry.bytes certificate.entry.now cert.now) }
 {
     let answer = put_of(alloc, certificate, cert)?;
     let mut puts = List::new(alloc);
@@ -153,13 +156,16 @@ fn reply_to_answer<'a>(
     cert: &Cert,
 ) -> Result<Reply<'a>, Memory>
     requires { HasLettersOf pair.now.labels cert.now.body }
-    ensures { IfOk result (IsPropertyReply property.now pair.now cert.now.body (property_puts made.entry.name made.entry.bytes certificate.entry.now cert.now)) }
+    ensures { IfOk result
+        (IsPropertyReply property.now pair.now cert.now.body
+        (property_puts made.entry.name made.entry.bytes certificate.entry.now cert.now)) }
 {
     let puts = puts_of(alloc, made, certificate, cert)?;
     verdict(alloc, property, pair, &cert.body, puts)
 }
 
-/// The reply to the joined automata: the made text and the answer's are to be written, in this order.
+/// The reply to the joined automata: the made text and the answer's are to be written, in this
+/// order.
 pub fn decided<'a>(
     alloc: Global,
     property: &str,
@@ -169,7 +175,9 @@ pub fn decided<'a>(
     pair: &Joined,
 ) -> Result<Reply<'a>, Memory>
     requires { CanDecide pair.now }
-    ensures { IfOk result (IsPropertyDecided property.now made.entry.bytes made.entry.name certificate.entry.now mode pair.now) }
+    ensures { IfOk result
+        (IsPropertyDecided property.now made.entry.bytes made.entry.name certificate.entry.now mode
+        pair.now) }
 {
     let cert = decide::include(alloc, pair, mode, USUAL_LOOK, USUAL_LIMIT)?;
     reply_to_answer(alloc, property, made, certificate, pair, &cert)

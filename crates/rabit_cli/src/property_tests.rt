@@ -1,4 +1,5 @@
-//! Emptiness and universality of an automaton in a file in memory: what is printed, the two files that are left, and what a check says of them.
+//! Emptiness and universality of an automaton in a file in memory: what is printed, the two files
+//! that are left, and what a check says of them.
 
 use crate::include_tests::says;
 use crate::shrink_tests::{holds, shelf_of};
@@ -11,7 +12,8 @@ const TWO_LETTERS: &str = "[0]\na,[0]->[0]\nb,[0]->[0]\n[0]\n";
 const UNIVERSAL_YES: &str =
     "rabit-cert 1 buchi yes\nsizes 1 1 2\nlog1 0\nlog2 0\nrel 1\nrow 0 0\nelements 1\nlive base 0\ncover 0 0\nstep 0 0 0\nend\n";
 
-/// Whether the two letters are told to be all so, and, where that is said, whether the text and the certificate are left as it is said.
+/// Whether the two letters are told to be all so, and, where that is said, whether the text and the
+/// certificate are left as it is said.
 fn puts(
     alloc: Global,
     fails: &[u64],

@@ -8,7 +8,8 @@ use std::alloc::Global;
 use std::test::Fail;
 use test_inputs::list_of;
 
-/// Two states, each left by a letter of its own; there is neither an initial line nor an accepting one.
+/// Two states, each left by a letter of its own; there is neither an initial line nor an accepting
+/// one.
 const PAIR: &str = "a,[5]->[7]\nb,[7]->[5]\n";
 
 /// The lines of so many states.
@@ -40,7 +41,8 @@ fn failing_calls_are_told(rt: HostRuntime) -> Result<(), Fail> {
         ("A", PAIR, &[], &[0], "", 7),
         // a fault that can't be told stays a fault
         ("A", "", &[], &[0], "", 4),
-        // one file is loaded once and the text is given at once, so further calls that would fail are none
+        // one file is loaded once and the text is given at once, so further calls that would fail
+        // are none
         ("A", PAIR, &[3], &[1], reduced, 0),
     ];
     for (name, text, fails, sink_fails, printed, status) in rows {

@@ -1,4 +1,5 @@
-//! Certificates that say no without the letters that they do not need: what is printed, and what is left.
+//! Certificates that say no without the letters that they do not need: what is printed, and what is
+//! left.
 
 use crate::include_tests::{PAIR, says, says_in_turn};
 use auto_core::Memory;
@@ -43,7 +44,8 @@ pub(crate) fn begins(alloc: Global, shelf: &mut MemShelf, name: &str, front: &st
     }
 }
 
-/// The status of a shrinking of the certificate for the two automata, and whether just this text was sent and just that one is left.
+/// The status of a shrinking of the certificate for the two automata, and whether just this text
+/// was sent and just that one is left.
 fn shrinks(
     alloc: Global,
     first: &str,

@@ -34,7 +34,9 @@ fn nothing_to_shrink<'a>(alloc: Global) -> Result<Reply<'a>, Memory>
 /// The body with what is left of its lasso or of its word, if it has one.
 fn left_of(alloc: Global, pair: &Joined, cert: &Cert) -> Result<Option<Body>, Memory>
     requires { KeepsRules pair.now cert.now }
-    ensures { IfOk result (λ left. MatchOption left (¬ IsNo cert.now.body) (IsShrunkBody pair.now cert.now.body)) }
+    ensures { IfOk
+        result (λ left.
+        MatchOption left (¬ IsNo cert.now.body) (IsShrunkBody pair.now cert.now.body)) }
 {
     match &cert.body {
         Body::NoLasso(lasso) => {
@@ -98,7 +100,10 @@ fn of_three<'a>(
     requires one { IsWithinLimits FIRST_LIMITS one.now }
     requires two { IsWithinLimits SECOND_LIMITS two.now }
     requires well_formed { WellFormed cert.now }
-    ensures { IfOk result (λ reply. (pair : AJoined) × IsJoined one.now two.now pair × IsShrinkReply name.entry.now pair cert.now reply) }
+    ensures { IfOk
+        result (λ reply.
+        (pair : AJoined) × IsJoined one.now two.now pair
+        × IsShrinkReply name.entry.now pair cert.now reply) }
 {
     let pair = ba_format::join(alloc, one, two)?;
     checked(alloc, name, &pair, cert)

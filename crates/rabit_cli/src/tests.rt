@@ -1,6 +1,7 @@
 //! The top call on files in memory: statuses, printed texts, and calls of the outside that fail.
 
 mod worked;
+mod worked_checks;
 mod worked_texts;
 
 use crate::top::run;
@@ -76,7 +77,8 @@ pub(crate) fn check(
     answers(alloc, &["check", "A", "B", "C"], &files, &[], &[], printed)
 }
 
-/// How many of these checks end otherwise: of the first automaton and the second, by the certificate, with the status and just the text.
+/// How many of these checks end otherwise: of the first automaton and the second, by the
+/// certificate, with the status and just the text.
 pub(crate) fn unsaid(alloc: Global, rows: &[(&str, &str, &str, u8, &str)]) -> Result<u32, Memory> {
     let mut unsaid: u32 = 0;
     for (first, second, certificate, status, printed) in rows {
@@ -87,7 +89,8 @@ pub(crate) fn unsaid(alloc: Global, rows: &[(&str, &str, &str, u8, &str)]) -> Re
     Ok(unsaid)
 }
 
-/// How many of these end otherwise on the files: the words, where these calls of the shelf and of the sink fail, with the status and just the text.
+/// How many of these end otherwise on the files: the words, where these calls of the shelf and of
+/// the sink fail, with the status and just the text.
 pub(crate) fn unanswered(
     alloc: Global,
     files: &[(&str, &str)],

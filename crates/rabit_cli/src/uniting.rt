@@ -32,7 +32,9 @@ fn united<'a>(alloc: Global, mode: Mode, pair: &Joined) -> Result<Reply<'a>, Mem
 fn of_two<'a>(alloc: Global, mode: Mode, one: &Named, two: &Named) -> Result<Reply<'a>, Memory>
     requires one { IsWithinLimits FIRST_LIMITS one.now }
     requires two { IsWithinLimits SECOND_LIMITS two.now }
-    ensures { IfOk result (λ reply. (pair : AJoined) × IsJoined one.now two.now pair × IsUnionReply mode pair reply) }
+    ensures { IfOk
+        result (λ reply.
+        (pair : AJoined) × IsJoined one.now two.now pair × IsUnionReply mode pair reply) }
 {
     let pair = ba_format::join(alloc, one, two)?;
     united(alloc, mode, &pair)

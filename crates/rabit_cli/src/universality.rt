@@ -48,7 +48,8 @@ fn universal_text(alloc: Global, labels: &Texts) -> Result<List<u8>, Memory>
     ba_format::write(alloc, &made, labels)
 }
 
-/// The reply to the automaton: whether the one that accepts everything over its labels is included in it.
+/// The reply to the automaton: whether the one that accepts everything over its labels is included
+/// in it.
 fn of_one<'a>(
     alloc: Global,
     made_name: &'a str,
@@ -58,7 +59,8 @@ fn of_one<'a>(
 ) -> Result<Reply<'a>, Memory>
     requires within { IsWithinLimits SECOND_LIMITS one.now }
     requires writable { HasWritableLabels one.now }
-    ensures { IfOk result (IsPropertyDecidedFor universality made_name.entry.now certificate.entry.now mode one.now) }
+    ensures { IfOk result
+        (IsPropertyDecidedFor universality made_name.entry.now certificate.entry.now mode one.now) }
 {
     let bytes = universal_text(alloc, &one.labels)?;
     let other = read_back(alloc, bytes.as_slice())?;
@@ -79,7 +81,8 @@ pub fn reply<'a>(
     values: &[Value],
 ) -> Result<Reply<'a>, Memory>
     requires { (a : Items ℕ) × AreOfKinds (property_inputs universality a) values.now }
-    ensures { IfOk result (MeansProperty universality made_name.entry.now certificate.entry.now mode values.now) }
+    ensures { IfOk result
+        (MeansProperty universality made_name.entry.now certificate.entry.now mode values.now) }
 {
     match values {
         [Value::Automaton(one)] => of_one(alloc, made_name, certificate, mode, one),

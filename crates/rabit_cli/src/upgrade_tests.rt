@@ -1,4 +1,5 @@
-//! Certificates put in version 2: what is printed, what is left, and that a check says the same of both.
+//! Certificates put in version 2: what is printed, what is left, and that a check says the same of
+//! both.
 
 use crate::include_tests::{leaves, says};
 use std::test::Fail;

@@ -1,4 +1,5 @@
-//! The words of the command line: which ask something, and which ask nothing; and drills, which read no file.
+//! The words of the command line: which ask something, and which ask nothing; and drills, which
+//! read no file.
 
 use crate::tests::answers;
 use std::test::Fail;

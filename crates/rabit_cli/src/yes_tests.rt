@@ -1,4 +1,5 @@
-//! Certificates of inclusion: valid ones, and one line changed so that each rule in turn is the first that is broken.
+//! Certificates of inclusion: valid ones, and one line changed so that each rule in turn is the
+//! first that is broken.
 
 use crate::tests::{ONE_A, check};
 use auto_core::Memory;
@@ -30,7 +31,8 @@ pub const LINES: [&str; 18] = [
     "end\n",
 ];
 
-/// The text of the lines, with these in place of those with the same numbers, which are counted from 0.
+/// The text of the lines, with these in place of those with the same numbers, which are counted
+/// from 0.
 pub(crate) fn with_lines(
     alloc: Global,
     lines: &[&str],
@@ -49,8 +51,8 @@ pub(crate) fn with_lines(
     Ok(text)
 }
 
-/// How many of the damages of the whole text are told otherwise than by this status and what stands beside them. A damage is the lines that
-/// change, by their numbers from 0.
+/// How many of the damages of the whole text are told otherwise than by this status and what stands
+/// beside them. A damage is the lines that change, by their numbers from 0.
 pub(crate) fn untold(
     alloc: Global,
     first: &str,

@@ -16,8 +16,11 @@ request_with inputs means = record { inputs = inputs; means = means }
 
 -- What its files read as has one right reply, at most.
 abbrev pub HasOneReply : Request → Type 0
-HasOneReply q = (values : List Value) (r s : Reply) → AreOfKinds q.inputs values → q.means values r → q.means values s → r ≡ s
+HasOneReply q =
+    (values : List Value) (r s : Reply) → AreOfKinds q.inputs values → q.means values r
+    → q.means values s → r ≡ s
 
--- To read these files, after which a command goes on by itself: no reply is right for what they read as, and it ends so only where one is not read.
+-- To read these files, after which a command goes on by itself: no reply is right for what they
+-- read as, and it ends so only where one is not read.
 abbrev pub only_reading : List Input → Request
 only_reading inputs = request_with inputs (λ values r. ⊥)

@@ -17,24 +17,40 @@ use auto_core::List;
 use shelf_io::{Shelf, Sink};
 use std::alloc::Global;
 
-/// The command's reply, before anything is written: that of the first file that is not read, or that to all of them.
+/// The command's reply, before anything is written: that of the first file that is not read, or
+/// that to all of them.
 fn reply_of<'w, W: Work, H: Shelf>(
     alloc: Global,
     work: &'w W,
     shelf: &mut H,
 ) -> Result<Reply<'w>, Lack>
     requires fit { W.is_fit work.now }
-    ensures right { IfOk result (λ reply. IfSome (H.seen shelf.old).files (λ files. IsReplyFor (W.request work.now) files reply)) }
+    ensures right { IfOk
+        result (λ reply.
+        IfSome (H.seen shelf.old).files (λ files. IsReplyFor (W.request work.now) files reply)) }
     ensures may { IfOk result (MayReply (W.request work.now)) }
     ensures some { result ≡ Err Lack.ReadFault → 1 ≤ length (W.request work.now).inputs }
-    ensures read_fault { result ≡ Err Lack.ReadFault → Rose (H.seen shelf.old).read_faults (H.seen shelf.new).read_faults }
-    ensures no_read_fault { ¬ (result ≡ Err Lack.ReadFault) → (H.seen shelf.new).read_faults ≡ (H.seen shelf.old).read_faults }
+    ensures read_fault { result ≡ Err Lack.ReadFault
+        → Rose (H.seen shelf.old).read_faults (H.seen shelf.new).read_faults }
+    ensures no_read_fault { ¬ (result ≡ Err Lack.ReadFault)
+        → (H.seen shelf.new).read_faults ≡ (H.seen shelf.old).read_faults }
     ensures only_read { OnlyRead (H.seen shelf.new).begins (H.seen shelf.old) (H.seen shelf.new) }
-    ensures missing { MissesInTurn (W.request work.now).inputs (H.seen shelf.old) (H.seen shelf.new) }
-    ensures all_begun { IfOk result (λ reply. MayStop (W.request work.now).inputs reply ⊎ AllBegun (W.request work.now).inputs (H.seen shelf.old).begins (H.seen shelf.new).begins) }
-    ensures begun_for_reply { IfOk result (λ reply. BegunForReply (H.seen shelf.old).files (W.request work.now).inputs (H.seen shelf.old).begins (H.seen shelf.new).begins) }
-    ensures begun_to_blamed { result ≡ Err Lack.ReadFault → BegunToBlamed (H.seen shelf.old).files (W.request work.now).inputs (H.seen shelf.new).blamed (H.seen shelf.old).begins (H.seen shelf.new).begins }
-    ensures begun_in_turn { BegunInTurn (H.seen shelf.old).files (W.request work.now).inputs (H.seen shelf.old).begins (H.seen shelf.new).begins }
+    ensures missing { MissesInTurn (W.request work.now).inputs (H.seen shelf.old)
+        (H.seen shelf.new) }
+    ensures all_begun { IfOk
+        result (λ reply.
+        MayStop (W.request work.now).inputs reply
+        ⊎ AllBegun (W.request work.now).inputs (H.seen shelf.old).begins
+        (H.seen shelf.new).begins) }
+    ensures begun_for_reply { IfOk
+        result (λ reply.
+        BegunForReply (H.seen shelf.old).files (W.request work.now).inputs (H.seen shelf.old).begins
+        (H.seen shelf.new).begins) }
+    ensures begun_to_blamed { result ≡ Err Lack.ReadFault
+        → BegunToBlamed (H.seen shelf.old).files (W.request work.now).inputs
+        (H.seen shelf.new).blamed (H.seen shelf.old).begins (H.seen shelf.new).begins }
+    ensures begun_in_turn { BegunInTurn (H.seen shelf.old).files (W.request work.now).inputs
+        (H.seen shelf.old).begins (H.seen shelf.new).begins }
 {
     let slots = match work.slots(alloc) {
         Ok(slots) => slots,
@@ -57,13 +73,16 @@ fn reply_of<'w, W: Work, H: Shelf>(
     }
 }
 
-/// How the command ends: the files of its reply are written in order, and the first that is refused is the end.
+/// How the command ends: the files of its reply are written in order, and the first that is refused
+/// is the end.
 fn ending_of<'w, W: Work, H: Shelf>(alloc: Global, work: &'w W, shelf: &mut H) -> Ending<'w>
     requires fit { W.is_fit work.now }
     ensures ends { EndsSo (W.request work.now) result (H.seen shelf.old) (H.seen shelf.new) }
     ensures put_once { PutsOnce (W.request work.now) result (H.seen shelf.old) (H.seen shelf.new) }
-    ensures missing { MissesInTurn (W.request work.now).inputs (H.seen shelf.old) (H.seen shelf.new) }
-    ensures begun { BegunByStatus (W.request work.now).inputs (status_of result) (H.seen shelf.old) (H.seen shelf.new) }
+    ensures missing { MissesInTurn (W.request work.now).inputs (H.seen shelf.old)
+        (H.seen shelf.new) }
+    ensures begun { BegunByStatus (W.request work.now).inputs (status_of result) (H.seen shelf.old)
+        (H.seen shelf.new) }
 {
     let reply = match reply_of(alloc, work, shelf) {
         Ok(reply) => reply,
@@ -110,13 +129,22 @@ pub fn read_alone<H: Shelf>(
     shelf: &mut H,
     slot: &Slot<'_>,
 ) -> Result<Value, Ending<'static>>
-    ensures read { IfOk result (λ value. IfSome (H.seen shelf.old).files (λ files. FileReads files slot.now value)) }
+    ensures read { IfOk
+        result (λ value.
+        IfSome (H.seen shelf.old).files (λ files. FileReads files slot.now value)) }
     ensures kind { IfOk result (IsOfKind slot.now.kind) }
-    ensures ends { IfErr result (λ end. EndsSo (only_reading (slot.now ∷ [])) end (H.seen shelf.old) (H.seen shelf.new)) }
-    ensures faults_stay { IfOk result (λ value. (H.seen shelf.new).read_faults ≡ (H.seen shelf.old).read_faults) }
-    ensures only_read { OnlyRead (counted (H.seen shelf.old).begins) (H.seen shelf.old) (H.seen shelf.new) }
-    ensures counts_missing { CountsMissing (H.seen shelf.old).files slot.now.name (H.seen shelf.old).missed (H.seen shelf.new).missed }
-    ensures begun { IfErr result (λ end. BegunByStatus (slot.now ∷ []) (status_of end) (H.seen shelf.old) (H.seen shelf.new)) }
+    ensures ends { IfErr
+        result (λ end.
+        EndsSo (only_reading (slot.now ∷ [])) end (H.seen shelf.old) (H.seen shelf.new)) }
+    ensures faults_stay { IfOk
+        result (λ value. (H.seen shelf.new).read_faults ≡ (H.seen shelf.old).read_faults) }
+    ensures only_read { OnlyRead (counted (H.seen shelf.old).begins) (H.seen shelf.old)
+        (H.seen shelf.new) }
+    ensures counts_missing { CountsMissing (H.seen shelf.old).files slot.now.name
+        (H.seen shelf.old).missed (H.seen shelf.new).missed }
+    ensures begun { IfErr
+        result (λ end.
+        BegunByStatus (slot.now ∷ []) (status_of end) (H.seen shelf.old) (H.seen shelf.new)) }
 {
     match reading::read_one(alloc, shelf, slot) {
         Ok(value) => Ok(value),
@@ -129,7 +157,9 @@ pub fn read_alone<H: Shelf>(
 /// Carries out the command but says nothing, and answers the status that it ends with.
 pub fn carry_out_unsaid<W: Work, H: Shelf>(alloc: Global, work: &W, shelf: &mut H) -> u8
     requires fit { W.is_fit work.now }
-    ensures ends { (end : AnEnding) × EndsSo (W.request work.now) end (H.seen shelf.old) (H.seen shelf.new) × (result ≡ status_of end) }
+    ensures ends { (end : AnEnding)
+        × EndsSo (W.request work.now) end (H.seen shelf.old) (H.seen shelf.new)
+        × (result ≡ status_of end) }
     ensures calls { CallsShelf (W.request work.now) result (H.seen shelf.old) (H.seen shelf.new) }
 {
     match ending_of(alloc, work, shelf) {
@@ -144,7 +174,8 @@ pub fn carry_out_unsaid<W: Work, H: Shelf>(alloc: Global, work: &W, shelf: &mut 
     }
 }
 
-/// Carries out the command: its files are read in turn, those of its reply are written in order, and then its text is given. Answers the status.
+/// Carries out the command: its files are read in turn, those of its reply are written in order,
+/// and then its text is given. Answers the status.
 pub fn carry_out<W: Work, H: Shelf, K: Sink>(
     alloc: Global,
     work: &W,
@@ -156,8 +187,9 @@ pub fn carry_out<W: Work, H: Shelf, K: Sink>(
     // What is read as these values has one right reply, at most.
     requires one { HasOneReply (W.request work.now) }
 
-    // One ending was said. Where the shelf tells its files it is the right one, or a fault of the outside or want of memory: the right reply,
-    // whatever it is, has its files written and its text given.
+    // One ending was said. Where the shelf tells its files it is the right one, or a fault of the
+    // outside or want of memory: the right reply, whatever it is, has its files written and its
+    // text given.
     ensures carried { IsCarriedOut (W.request work.now)
         (call (H.seen shelf.old) (H.seen shelf.new) (K.seen out.old) (K.seen out.new) result) }
 
@@ -165,8 +197,9 @@ pub fn carry_out<W: Work, H: Shelf, K: Sink>(
     ensures faults { TellsFaults (W.request work.now)
         (call (H.seen shelf.old) (H.seen shelf.new) (K.seen out.old) (K.seen out.new) result) }
 
-    // By the counts of calls: just the files were begun that the status needs, each once and in turn; each file of the reply was put once, or up to one
-    // that was refused; and the whole text was one give.
+    // By the counts of calls: just the files were begun that the status needs, each once and in
+    // turn; each file of the reply was put once, or up to one that was refused; and the whole text
+    // was one give.
     ensures calls { MakesCalls (W.request work.now)
         (call (H.seen shelf.old) (H.seen shelf.new) (K.seen out.old) (K.seen out.new) result) }
 {

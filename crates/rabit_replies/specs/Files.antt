@@ -33,7 +33,8 @@ certificate_put name cert = record { name = name; bytes = text cert }
 abbrev pub ReadsCertificate : FileMap → List ℕ → Cert → Type 0
 ReadsCertificate files name cert = FileReads files (certificate_file name) (value.Certificate cert)
 
--- Both files read as automata, the first within these limits, and this pair is the two over their joined labels.
+-- Both files read as automata, the first within these limits, and this pair is the two over their
+-- joined labels.
 abbrev pub ReadsPairWithin : Limits → FileMap → List ℕ → List ℕ → Joined → Type 0
 ReadsPairWithin limits files a b pair =
     (one two : Named)

@@ -49,7 +49,9 @@ nothing_to_shrink_text = codes "nothing to shrink" ++ line_end
 
 -- A certificate breaks a rule.
 abbrev pub refused_text : Refusal → List ℕ
-refused_text refusal = codes "certificate item " ++ (decimal refusal.item ++ (codes ": rule " ++ (decimal refusal.rule ++ line_end)))
+refused_text refusal =
+    codes "certificate item "
+    ++ (decimal refusal.item ++ (codes ": rule " ++ (decimal refusal.rule ++ line_end)))
 
 -- The second automaton accepts each lasso, in finite mode each word, that the first accepts.
 abbrev pub included_text : Mode → List ℕ
@@ -59,7 +61,9 @@ included_text Finite = codes "included, finite" ++ line_end
 -- The lines of a lasso.
 abbrev pub lasso_lines : List (List ℕ) → Lasso → List ℕ
 lasso_lines labels lasso =
-    codes "prefix:" ++ (word_text labels lasso.prefix ++ (line_end ++ (codes "loop:" ++ (word_text labels lasso.turn ++ line_end))))
+    codes "prefix:"
+    ++ (word_text labels lasso.prefix
+    ++ (line_end ++ (codes "loop:" ++ (word_text labels lasso.turn ++ line_end))))
 
 -- The line of a word.
 abbrev pub word_line : List (List ℕ) → List ℕ → List ℕ
@@ -71,7 +75,8 @@ not_included_text labels lasso = codes "not included" ++ (line_end ++ lasso_line
 
 -- The first automaton accepts the word, and the second does not.
 abbrev pub word_not_included_text : List (List ℕ) → List ℕ → List ℕ
-word_not_included_text labels word = codes "not included, finite" ++ (line_end ++ word_line labels word)
+word_not_included_text labels word =
+    codes "not included, finite" ++ (line_end ++ word_line labels word)
 
 -- What a no has, as its lines.
 abbrev pub witness_lines : List (List ℕ) → Body → List ℕ
@@ -86,11 +91,13 @@ equal_text = codes "equal" ++ line_end
 
 -- The first accepts what the second does not.
 abbrev pub first_apart_text : List (List ℕ) → Body → List ℕ
-first_apart_text labels body = codes "first not in second" ++ (line_end ++ witness_lines labels body)
+first_apart_text labels body =
+    codes "first not in second" ++ (line_end ++ witness_lines labels body)
 
 -- The second accepts what the first does not.
 abbrev pub second_apart_text : List (List ℕ) → Body → List ℕ
-second_apart_text labels body = codes "second not in first" ++ (line_end ++ witness_lines labels body)
+second_apart_text labels body =
+    codes "second not in first" ++ (line_end ++ witness_lines labels body)
 
 -- An automaton has the property of this name.
 abbrev pub holds_text : List ℕ → List ℕ
@@ -98,11 +105,13 @@ holds_text property = property ++ line_end
 
 -- It has not, which the lasso shows.
 abbrev pub lasso_against_text : List ℕ → List (List ℕ) → Lasso → List ℕ
-lasso_against_text property labels lasso = codes "not " ++ (property ++ (line_end ++ lasso_lines labels lasso))
+lasso_against_text property labels lasso =
+    codes "not " ++ (property ++ (line_end ++ lasso_lines labels lasso))
 
 -- It has not, which the word shows.
 abbrev pub word_against_text : List ℕ → List (List ℕ) → List ℕ → List ℕ
-word_against_text property labels word = codes "not " ++ (property ++ (line_end ++ word_line labels word))
+word_against_text property labels word =
+    codes "not " ++ (property ++ (line_end ++ word_line labels word))
 
 -- The search met its limit.
 abbrev pub limit_text : ℕ → List ℕ

@@ -31,19 +31,26 @@ nothing_to_shrink_reply = only_said status.NothingToShrink nothing_to_shrink_tex
 
 -- The certificate breaks a rule, the first being this one.
 abbrev pub IsRefusedReply : Joined → Cert → Reply → Type 0
-IsRefusedReply pair cert r = (refusal : Refusal) × BreaksRule pair cert refusal × (r ≡ only_said status.BadCertificate (refused_text refusal))
+IsRefusedReply pair cert r =
+    (refusal : Refusal) × BreaksRule pair cert refusal
+    × (r ≡ only_said status.BadCertificate (refused_text refusal))
 
 -- The letters of the body's lasso, or of its word, have texts among these.
 pub record HasLettersOf (labels : List (List ℕ)) (body : Body) : Type 0 where
-  pub lasso : (l : Lasso) → body ≡ NoLasso l → All (λ a. a < length labels) l.prefix × All (λ a. a < length labels) l.turn
+  pub lasso : (l : Lasso) → body ≡ NoLasso l
+      → All (λ a. a < length labels) l.prefix × All (λ a. a < length labels) l.turn
   pub word : (w : List ℕ) → body ≡ NoWord w → All (λ a. a < length labels) w
 
 -- What a right certificate of this mode with this body says, where these files are written before.
 abbrev pub IsVerdictReply : Mode → Joined → Body → List Output → Reply → Type 0
-IsVerdictReply mode pair (Yes evidence) puts r = r ≡ reply_with status.Done (included_text mode) puts
-IsVerdictReply mode pair (NoLasso lasso) puts r = r ≡ reply_with status.Refuted (not_included_text pair.labels lasso) puts
-IsVerdictReply mode pair (NoWord word) puts r = r ≡ reply_with status.Refuted (word_not_included_text pair.labels word) puts
-IsVerdictReply mode pair (Listing list) puts r = r ≡ reply_with status.Limit (limit_text list.limit) puts
+IsVerdictReply mode pair (Yes evidence) puts r =
+    r ≡ reply_with status.Done (included_text mode) puts
+IsVerdictReply mode pair (NoLasso lasso) puts r =
+    r ≡ reply_with status.Refuted (not_included_text pair.labels lasso) puts
+IsVerdictReply mode pair (NoWord word) puts r =
+    r ≡ reply_with status.Refuted (word_not_included_text pair.labels word) puts
+IsVerdictReply mode pair (Listing list) puts r =
+    r ≡ reply_with status.Limit (limit_text list.limit) puts
 
 -- The body is a no: it has a lasso, or a word.
 abbrev pub IsNo : Body → Type 0
@@ -52,10 +59,14 @@ IsNo (NoLasso lasso) = Unit {0}
 IsNo (NoWord word) = Unit {0}
 IsNo (Listing list) = ⊥
 
--- The body's lasso, in finite mode its word, is accepted by the first automaton and not by the second, and that was printed.
+-- The body's lasso, in finite mode its word, is accepted by the first automaton and not by the
+-- second, and that was printed.
 abbrev pub SaysApart : Joined → Body → SinkSeen → SinkSeen → Type 0
 SaysApart pair (Yes evidence) old new = ⊥
 SaysApart pair (NoLasso lasso) old new =
-    SeparatesLasso pair.first pair.second lasso.prefix lasso.turn × Sends (not_included_text pair.labels lasso) old new
-SaysApart pair (NoWord word) old new = SeparatesWord pair.first pair.second word × Sends (word_not_included_text pair.labels word) old new
+    SeparatesLasso pair.first pair.second lasso.prefix lasso.turn
+    × Sends (not_included_text pair.labels lasso) old new
+SaysApart pair (NoWord word) old new =
+    SeparatesWord pair.first pair.second word
+    × Sends (word_not_included_text pair.labels word) old new
 SaysApart pair (Listing list) old new = ⊥

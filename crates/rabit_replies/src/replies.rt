@@ -36,7 +36,8 @@ pub fn usage<'a>(alloc: Global) -> Result<Reply<'a>, Memory>
 
 /// A certificate breaks the rule.
 pub fn refused<'a>(alloc: Global, refusal: Refusal) -> Result<Reply<'a>, Memory>
-    ensures { IfOk result (λ reply. reply ≡ only_said Status.BadCertificate (refused_text refusal)) }
+    ensures { IfOk
+        result (λ reply. reply ≡ only_said Status.BadCertificate (refused_text refusal)) }
 {
     let item = refusal.item;
     let rule = refusal.rule;

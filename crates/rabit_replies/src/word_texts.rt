@@ -18,7 +18,8 @@ fn push_further(out: &mut List<u8>, labels: &Texts, word: &[u32]) -> Result<(), 
     Ok(())
 }
 
-/// Appends a space and the texts of the word's labels, joined by commas; nothing for the empty word.
+/// Appends a space and the texts of the word's labels, joined by commas; nothing for the empty
+/// word.
 pub fn push_word(out: &mut List<u8>, labels: &Texts, word: &[u32]) -> Result<(), Memory>
     requires { All (λ a. a < length labels.now) word.now }
     ensures { OnOk result (out.new ≡ out.old ++ word_text labels.now word.now) }

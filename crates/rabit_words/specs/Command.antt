@@ -28,7 +28,9 @@ three_files_app name = with_rule (two_files_app name) (place (codes "CERT"))
 abbrev pub include_app : App
 include_app =
     with_rule
-    (with_rule (with_rule (with_rule (three_files_app (codes "include")) (option_alone (codes "finite"))) (option_with_word (codes "look"))) (option_with_word (codes "limit")))
+    (with_rule
+    (with_rule (with_rule (three_files_app (codes "include")) (option_alone (codes "finite")))
+    (option_with_word (codes "look"))) (option_with_word (codes "limit")))
     (option_with_word (codes "letters"))
 
 -- `check A B CERT`
@@ -39,20 +41,27 @@ check_app = three_files_app (codes "check")
 abbrev pub reduce_app : App
 reduce_app =
     with_rule
-    (with_rule (with_rule (with_rule (new_app (codes "reduce")) (place (codes "A"))) (option_alone (codes "finite"))) (option_with_word (codes "look")))
+    (with_rule
+    (with_rule (with_rule (new_app (codes "reduce")) (place (codes "A")))
+    (option_alone (codes "finite"))) (option_with_word (codes "look")))
     (option_with_word (codes "letters"))
 
 -- `drill SEED STATES LABELS`
 abbrev pub drill_app : App
-drill_app = with_rule (with_rule (with_rule (new_app (codes "drill")) (place (codes "SEED"))) (place (codes "STATES"))) (place (codes "LABELS"))
+drill_app =
+    with_rule (with_rule (with_rule (new_app (codes "drill")) (place (codes "SEED")))
+    (place (codes "STATES"))) (place (codes "LABELS"))
 
 -- `upgrade CERT OUT`
 abbrev pub upgrade_app : App
-upgrade_app = with_rule (with_rule (new_app (codes "upgrade")) (place (codes "CERT"))) (place (codes "OUT"))
+upgrade_app =
+    with_rule (with_rule (new_app (codes "upgrade")) (place (codes "CERT"))) (place (codes "OUT"))
 
 -- `cross A B OUT [--look K]`
 abbrev pub cross_app : App
-cross_app = with_rule (with_rule (two_files_app (codes "cross")) (place (codes "OUT"))) (option_with_word (codes "look"))
+cross_app =
+    with_rule (with_rule (two_files_app (codes "cross")) (place (codes "OUT")))
+    (option_with_word (codes "look"))
 
 -- `cross-check A B FILE`
 abbrev pub cross_check_app : App
@@ -60,7 +69,8 @@ cross_check_app = with_rule (two_files_app (codes "cross-check")) (place (codes 
 
 -- `equal A B C1 C2`
 abbrev pub equal_app : App
-equal_app = with_rule (with_rule (two_files_app (codes "equal")) (place (codes "C1"))) (place (codes "C2"))
+equal_app =
+    with_rule (with_rule (two_files_app (codes "equal")) (place (codes "C1"))) (place (codes "C2"))
 
 -- `batch LIST`
 abbrev pub batch_app : App
@@ -78,10 +88,13 @@ intersect_app = with_rule (two_files_app (codes "intersect")) (option_alone (cod
 abbrev pub shrink_app : App
 shrink_app = with_rule (three_files_app (codes "shrink")) (place (codes "OUT"))
 
--- A command of this name with the places of an automaton, of another of this name that is written, and of a certificate, and with `--finite`.
+-- A command of this name with the places of an automaton, of another of this name that is written,
+-- and of a certificate, and with `--finite`.
 abbrev pub deciding_app : List ℕ → List ℕ → App
 deciding_app name other =
-    with_rule (with_rule (with_rule (with_rule (new_app name) (place (codes "A"))) (place other)) (place (codes "CERT"))) (option_alone (codes "finite"))
+    with_rule
+    (with_rule (with_rule (with_rule (new_app name) (place (codes "A"))) (place other))
+    (place (codes "CERT"))) (option_alone (codes "finite"))
 
 -- `empty A E CERT [--finite]`
 abbrev pub empty_app : App
@@ -98,4 +111,20 @@ needing_subcommand s = record s { subcommand_required = true }
 -- The program's command.
 abbrev pub rabit_app : App
 rabit_app =
-    with_subcommand (with_subcommand (with_subcommand (with_subcommand (with_subcommand (with_subcommand (with_subcommand (with_subcommand (with_subcommand (with_subcommand (with_subcommand (with_subcommand (with_subcommand (with_subcommand (on_top needing_subcommand (new_app (codes "rabit"))) include_app.top) check_app.top) reduce_app.top) drill_app.top) upgrade_app.top) cross_app.top) cross_check_app.top) equal_app.top) batch_app.top) union_app.top) intersect_app.top) shrink_app.top) empty_app.top) universal_app.top
+    with_subcommand
+    (with_subcommand
+    (with_subcommand
+    (with_subcommand
+    (with_subcommand
+    (with_subcommand
+    (with_subcommand
+    (with_subcommand
+    (with_subcommand
+    (with_subcommand
+    (with_subcommand
+    (with_subcommand
+    (with_subcommand
+    (with_subcommand (on_top needing_subcommand (new_app (codes "rabit"))) include_app.top)
+    check_app.top) reduce_app.top) drill_app.top) upgrade_app.top) cross_app.top)
+    cross_check_app.top) equal_app.top) batch_app.top) union_app.top) intersect_app.top)
+    shrink_app.top) empty_app.top) universal_app.top

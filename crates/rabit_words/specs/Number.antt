@@ -17,7 +17,8 @@ is_spelled text = starts_well text && list_all is_digit text
 -- The number that is spelled so, if it lies from `low` to `high`.
 abbrev pub number_between : ℕ → ℕ → List ℕ → Option ℕ
 number_between low high text =
-    if is_spelled text && (nat_le low (digits_value 10 text) && nat_le (digits_value 10 text) high) then Some (digits_value 10 text) else None
+    if is_spelled text && (nat_le low (digits_value 10 text) && nat_le (digits_value 10 text) high)
+    then Some (digits_value 10 text) else None
 
 -- The same of an option's word, or the usual number where there is none.
 abbrev pub number_or : ℕ → ℕ → ℕ → Option (List ℕ) → Option ℕ

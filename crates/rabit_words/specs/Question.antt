@@ -14,7 +14,8 @@ use Rattle.rabit_words.specs.Command.{rabit_app}
 
 -- A command with its files' names and its numbers.
 pub data Question : Type 0 where
-  Include : (first second certificate : List ℕ) (mode : Mode) (look limit : ℕ) (letters : Option ℕ) → Question
+  Include : (first second certificate : List ℕ) (mode : Mode) (look limit : ℕ) (letters : Option ℕ)
+      → Question
   Check : (first second certificate : List ℕ) → Question
   Reduce : (name : List ℕ) (mode : Mode) (look letters : ℕ) → Question
   Drill : (seed states labels : ℕ) → Question
@@ -31,18 +32,21 @@ pub data Question : Type 0 where
 
 -- The question with its names as bytes.
 abbrev pub told : Held → Question
-told (held.Include a b c mode look limit letters) = Include (string_bytes a) (string_bytes b) (string_bytes c) mode look limit letters
+told (held.Include a b c mode look limit letters) =
+    Include (string_bytes a) (string_bytes b) (string_bytes c) mode look limit letters
 told (held.Check a b c) = Check (string_bytes a) (string_bytes b) (string_bytes c)
 told (held.Reduce a mode look letters) = Reduce (string_bytes a) mode look letters
 told (held.Drill seed states labels) = Drill seed states labels
 told (held.Upgrade c d) = Upgrade (string_bytes c) (string_bytes d)
 told (held.Cross a b d look) = Cross (string_bytes a) (string_bytes b) (string_bytes d) look
 told (held.CrossCheck a b f) = CrossCheck (string_bytes a) (string_bytes b) (string_bytes f)
-told (held.Equal a b c d) = Equal (string_bytes a) (string_bytes b) (string_bytes c) (string_bytes d)
+told (held.Equal a b c d) =
+    Equal (string_bytes a) (string_bytes b) (string_bytes c) (string_bytes d)
 told (held.Batch l) = Batch (string_bytes l)
 told (held.Union a b mode) = Union (string_bytes a) (string_bytes b) mode
 told (held.Intersect a b mode) = Intersect (string_bytes a) (string_bytes b) mode
-told (held.Shrink a b c d) = Shrink (string_bytes a) (string_bytes b) (string_bytes c) (string_bytes d)
+told (held.Shrink a b c d) =
+    Shrink (string_bytes a) (string_bytes b) (string_bytes c) (string_bytes d)
 told (held.Empty a e c mode) = Empty (string_bytes a) (string_bytes e) (string_bytes c) mode
 told (held.Universal a u c mode) = Universal (string_bytes a) (string_bytes u) (string_bytes c) mode
 
@@ -59,7 +63,8 @@ look_in rows = number_or USUAL_LOOK 1 6 (first_of (codes "look") rows)
 abbrev pub limit_in : List Row → Option ℕ
 limit_in rows = number_or USUAL_LIMIT 1 100000 (first_of (codes "limit") rows)
 
--- How many letters are asked for in a reduction, from 1 to 4, and the usual number where none is named.
+-- How many letters are asked for in a reduction, from 1 to 4, and the usual number where none is
+-- named.
 abbrev pub letters_in : List Row → Option ℕ
 letters_in rows = number_or USUAL_LETTERS 1 4 (first_of (codes "letters") rows)
 
@@ -79,22 +84,29 @@ asks_include rows =
     (λ b. option_and_then
     (λ c. option_and_then
     (λ look. option_and_then
-    (λ limit. option_map (λ letters. Include a b c (mode_by (first_of (codes "finite") rows)) look limit letters) (letters_named_in rows))
-    (limit_in rows)) (look_in rows)) (first_of (codes "CERT") rows)) (first_of (codes "B") rows)) (first_of (codes "A") rows)
+    (λ limit.
+    option_map (λ letters.
+    Include a b c (mode_by (first_of (codes "finite") rows)) look limit letters)
+    (letters_named_in rows))
+    (limit_in rows)) (look_in rows)) (first_of (codes "CERT") rows)) (first_of (codes "B") rows))
+    (first_of (codes "A") rows)
 
 -- The same of `check`.
 abbrev pub asks_check : List Row → Option Question
 asks_check rows =
     option_and_then
     (λ a. option_and_then
-    (λ b. option_map (λ c. Check a b c) (first_of (codes "CERT") rows)) (first_of (codes "B") rows)) (first_of (codes "A") rows)
+    (λ b. option_map (λ c. Check a b c) (first_of (codes "CERT") rows)) (first_of (codes "B") rows))
+    (first_of (codes "A") rows)
 
 -- The same of `reduce`.
 abbrev pub asks_reduce : List Row → Option Question
 asks_reduce rows =
     option_and_then
     (λ a. option_and_then
-    (λ look. option_map (λ letters. Reduce a (mode_by (first_of (codes "finite") rows)) look letters) (letters_in rows))
+    (λ look.
+    option_map (λ letters. Reduce a (mode_by (first_of (codes "finite") rows)) look letters)
+    (letters_in rows))
     (look_in rows)) (first_of (codes "A") rows)
 
 -- The same of `drill`: a seed below 2^32, 2 to 512 states, 1 to 26 labels.
@@ -102,12 +114,15 @@ abbrev pub asks_drill : List Row → Option Question
 asks_drill rows =
     option_and_then
     (λ seed. option_and_then
-    (λ states. option_map (λ labels. Drill seed states labels) (number_at (codes "LABELS") 1 26 rows))
+    (λ states.
+    option_map (λ labels. Drill seed states labels) (number_at (codes "LABELS") 1 26 rows))
     (number_at (codes "STATES") 2 512 rows)) (number_at (codes "SEED") 0 4294967295 rows)
 
 -- The same of `upgrade`.
 abbrev pub asks_upgrade : List Row → Option Question
-asks_upgrade rows = option_and_then (λ c. option_map (λ d. Upgrade c d) (first_of (codes "OUT") rows)) (first_of (codes "CERT") rows)
+asks_upgrade rows =
+    option_and_then (λ c. option_map (λ d. Upgrade c d) (first_of (codes "OUT") rows))
+    (first_of (codes "CERT") rows)
 
 -- The same of `cross`.
 abbrev pub asks_cross : List Row → Option Question
@@ -123,7 +138,8 @@ abbrev pub asks_cross_check : List Row → Option Question
 asks_cross_check rows =
     option_and_then
     (λ a. option_and_then
-    (λ b. option_map (λ f. CrossCheck a b f) (first_of (codes "FILE") rows)) (first_of (codes "B") rows)) (first_of (codes "A") rows)
+    (λ b. option_map (λ f. CrossCheck a b f) (first_of (codes "FILE") rows))
+    (first_of (codes "B") rows)) (first_of (codes "A") rows)
 
 -- The same of `equal`, where the names of the two certificates differ.
 abbrev pub asks_equal : List Row → Option Question
@@ -131,7 +147,8 @@ asks_equal rows =
     option_and_then
     (λ a. option_and_then
     (λ b. option_and_then
-    (λ c. option_and_then (λ d. if not (bytes_eq c d) then Some (Equal a b c d) else None) (first_of (codes "C2") rows))
+    (λ c. option_and_then (λ d. if not (bytes_eq c d) then Some (Equal a b c d) else None)
+    (first_of (codes "C2") rows))
     (first_of (codes "C1") rows)) (first_of (codes "B") rows)) (first_of (codes "A") rows)
 
 -- The same of `batch`.
@@ -142,13 +159,15 @@ asks_batch rows = option_map (λ l. Batch l) (first_of (codes "LIST") rows)
 abbrev pub asks_union : List Row → Option Question
 asks_union rows =
     option_and_then
-    (λ a. option_map (λ b. Union a b (mode_by (first_of (codes "finite") rows))) (first_of (codes "B") rows)) (first_of (codes "A") rows)
+    (λ a. option_map (λ b. Union a b (mode_by (first_of (codes "finite") rows)))
+    (first_of (codes "B") rows)) (first_of (codes "A") rows)
 
 -- The same of `intersect`.
 abbrev pub asks_intersect : List Row → Option Question
 asks_intersect rows =
     option_and_then
-    (λ a. option_map (λ b. Intersect a b (mode_by (first_of (codes "finite") rows))) (first_of (codes "B") rows)) (first_of (codes "A") rows)
+    (λ a. option_map (λ b. Intersect a b (mode_by (first_of (codes "finite") rows)))
+    (first_of (codes "B") rows)) (first_of (codes "A") rows)
 
 -- The same of `shrink`.
 abbrev pub asks_shrink : List Row → Option Question
@@ -164,7 +183,8 @@ abbrev pub names_differ : List ℕ → List ℕ → List ℕ → Bool
 names_differ a b c = not (bytes_eq a b) && (not (bytes_eq a c) && not (bytes_eq b c))
 
 -- The question about these three files, where their names differ.
-abbrev pub asks_if_names_differ : (List ℕ → List ℕ → List ℕ → Question) → List ℕ → List ℕ → List ℕ → Option Question
+abbrev pub asks_if_names_differ : (List ℕ → List ℕ → List ℕ → Question) → List ℕ → List ℕ → List ℕ
+    → Option Question
 asks_if_names_differ ask a b c = if names_differ a b c then Some (ask a b c) else None
 
 -- The same of `empty`.
@@ -173,7 +193,8 @@ asks_empty rows =
     option_and_then
     (λ a. option_and_then
     (λ e. option_and_then
-    (λ c. asks_if_names_differ (λ a e c. Empty a e c (mode_by (first_of (codes "finite") rows))) a e c)
+    (λ c. asks_if_names_differ (λ a e c. Empty a e c (mode_by (first_of (codes "finite") rows))) a e
+    c)
     (first_of (codes "CERT") rows)) (first_of (codes "E") rows)) (first_of (codes "A") rows)
 
 -- The same of `universal`.
@@ -182,7 +203,8 @@ asks_universal rows =
     option_and_then
     (λ a. option_and_then
     (λ u. option_and_then
-    (λ c. asks_if_names_differ (λ a u c. Universal a u c (mode_by (first_of (codes "finite") rows))) a u c)
+    (λ c. asks_if_names_differ (λ a u c. Universal a u c (mode_by (first_of (codes "finite") rows)))
+    a u c)
     (first_of (codes "CERT") rows)) (first_of (codes "U") rows)) (first_of (codes "A") rows)
 
 -- What is asked by the subcommand of this name.
@@ -230,8 +252,9 @@ starts_with_help (word ∷ words) = bytes_eq word (codes "help")
 abbrev pub has_help_word : List (List ℕ) → Bool
 has_help_word words = starts_with_help words || list_any is_help_option words
 
--- The question of the words: there is none where they hold a help word, have a fault by the command, spell a number otherwise or out of its
--- range, or give one name twice to a command that writes two files.
+-- The question of the words: there is none where they hold a help word, have a fault by the
+-- command, spell a number otherwise or out of its range, or give one name twice to a command that
+-- writes two files.
 abbrev pub question_of : List (List ℕ) → Option Question
 question_of words = if has_help_word words then None else asks_on_line (codes "rabit" ∷ words)
 
@@ -239,12 +262,16 @@ question_of words = if has_help_word words then None else asks_on_line (codes "r
 abbrev pub NamesDiffer : List ℕ → List ℕ → List ℕ → Type 0
 NamesDiffer a b c = (a ≢ b) × (a ≢ c) × (b ≢ c)
 
--- The numbers of the question are in their ranges, and the names of a command that writes two files differ.
+-- The numbers of the question are in their ranges, and the names of a command that writes two files
+-- differ.
 abbrev pub IsProper : Question → Type 0
-IsProper (Include a b c mode look limit letters) = (1 ≤ look) × (look ≤ 6) × (1 ≤ limit) × (limit ≤ 100000) × IfSome letters (λ m. (1 ≤ m) × (m ≤ 4))
+IsProper (Include a b c mode look limit letters) =
+    (1 ≤ look) × (look ≤ 6) × (1 ≤ limit) × (limit ≤ 100000)
+    × IfSome letters (λ m. (1 ≤ m) × (m ≤ 4))
 IsProper (Check a b c) = Unit {0}
 IsProper (Reduce a mode look letters) = (1 ≤ look) × (look ≤ 6) × (1 ≤ letters) × (letters ≤ 4)
-IsProper (Drill seed states labels) = (seed < 2 ^ 32) × (2 ≤ states) × (states ≤ 512) × (1 ≤ labels) × (labels ≤ 26)
+IsProper (Drill seed states labels) =
+    (seed < 2 ^ 32) × (2 ≤ states) × (states ≤ 512) × (1 ≤ labels) × (labels ≤ 26)
 IsProper (Upgrade c d) = Unit {0}
 IsProper (Cross a b d look) = (1 ≤ look) × (look ≤ 6)
 IsProper (CrossCheck a b f) = Unit {0}

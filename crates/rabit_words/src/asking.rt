@@ -16,7 +16,8 @@ use std::alloc::Global;
 
 /// The word that stands for the argument, if one does.
 fn word_of<'a>(found: &ArgMatches<'a>, id: &str) -> Option<&'a str>
-    ensures { option_map (λ word. word.now) result ≡ first_of id.now (rows_of (found_of found.now)) }
+    ensures { option_map (λ word. word.now) result
+        ≡ first_of id.now (rows_of (found_of found.now)) }
 {
     found.get_str(id)
 }
@@ -84,7 +85,8 @@ fn letters_named_of(found: &ArgMatches<'_>) -> Option<Option<u32>>
 
 /// What is asked where these stand in the places of `include`.
 fn include_in(alloc: Global, found: &ArgMatches<'_>) -> Result<Option<Question>, Memory>
-    ensures { IfOk result (λ asked. option_map told asked ≡ asks_include (rows_of (found_of found.now))) }
+    ensures { IfOk
+        result (λ asked. option_map told asked ≡ asks_include (rows_of (found_of found.now))) }
 {
     let Some(first) = word_of(found, "A") else {
         return Ok(None);
@@ -118,7 +120,8 @@ fn include_in(alloc: Global, found: &ArgMatches<'_>) -> Result<Option<Question>,
 
 /// What is asked where these stand in the places of `check`.
 fn check_in(alloc: Global, found: &ArgMatches<'_>) -> Result<Option<Question>, Memory>
-    ensures { IfOk result (λ asked. option_map told asked ≡ asks_check (rows_of (found_of found.now))) }
+    ensures { IfOk
+        result (λ asked. option_map told asked ≡ asks_check (rows_of (found_of found.now))) }
 {
     let Some(first) = word_of(found, "A") else {
         return Ok(None);
@@ -138,7 +141,8 @@ fn check_in(alloc: Global, found: &ArgMatches<'_>) -> Result<Option<Question>, M
 
 /// What is asked where these stand in the places of `reduce`.
 fn reduce_in(alloc: Global, found: &ArgMatches<'_>) -> Result<Option<Question>, Memory>
-    ensures { IfOk result (λ asked. option_map told asked ≡ asks_reduce (rows_of (found_of found.now))) }
+    ensures { IfOk
+        result (λ asked. option_map told asked ≡ asks_reduce (rows_of (found_of found.now))) }
 {
     let Some(name) = word_of(found, "A") else {
         return Ok(None);
@@ -180,7 +184,8 @@ fn drill_in(found: &ArgMatches<'_>) -> Option<Question>
 
 /// What is asked where these stand in the places of `upgrade`.
 fn upgrade_in(alloc: Global, found: &ArgMatches<'_>) -> Result<Option<Question>, Memory>
-    ensures { IfOk result (λ asked. option_map told asked ≡ asks_upgrade (rows_of (found_of found.now))) }
+    ensures { IfOk
+        result (λ asked. option_map told asked ≡ asks_upgrade (rows_of (found_of found.now))) }
 {
     let Some(certificate) = word_of(found, "CERT") else {
         return Ok(None);
@@ -196,7 +201,8 @@ fn upgrade_in(alloc: Global, found: &ArgMatches<'_>) -> Result<Option<Question>,
 
 /// What is asked where these stand in the places of `cross`.
 fn cross_in(alloc: Global, found: &ArgMatches<'_>) -> Result<Option<Question>, Memory>
-    ensures { IfOk result (λ asked. option_map told asked ≡ asks_cross (rows_of (found_of found.now))) }
+    ensures { IfOk
+        result (λ asked. option_map told asked ≡ asks_cross (rows_of (found_of found.now))) }
 {
     let Some(first) = word_of(found, "A") else {
         return Ok(None);
@@ -220,7 +226,8 @@ fn cross_in(alloc: Global, found: &ArgMatches<'_>) -> Result<Option<Question>, M
 
 /// What is asked where these stand in the places of `cross-check`.
 fn cross_check_in(alloc: Global, found: &ArgMatches<'_>) -> Result<Option<Question>, Memory>
-    ensures { IfOk result (λ asked. option_map told asked ≡ asks_cross_check (rows_of (found_of found.now))) }
+    ensures { IfOk
+        result (λ asked. option_map told asked ≡ asks_cross_check (rows_of (found_of found.now))) }
 {
     let Some(first) = word_of(found, "A") else {
         return Ok(None);
@@ -240,7 +247,8 @@ fn cross_check_in(alloc: Global, found: &ArgMatches<'_>) -> Result<Option<Questi
 
 /// What is asked where these stand in the places of `equal`.
 fn equal_in(alloc: Global, found: &ArgMatches<'_>) -> Result<Option<Question>, Memory>
-    ensures { IfOk result (λ asked. option_map told asked ≡ asks_equal (rows_of (found_of found.now))) }
+    ensures { IfOk
+        result (λ asked. option_map told asked ≡ asks_equal (rows_of (found_of found.now))) }
 {
     let Some(first) = word_of(found, "A") else {
         return Ok(None);
@@ -267,7 +275,8 @@ fn equal_in(alloc: Global, found: &ArgMatches<'_>) -> Result<Option<Question>, M
 
 /// What is asked where this stands in the place of `batch`.
 fn batch_in(alloc: Global, found: &ArgMatches<'_>) -> Result<Option<Question>, Memory>
-    ensures { IfOk result (λ asked. option_map told asked ≡ asks_batch (rows_of (found_of found.now))) }
+    ensures { IfOk
+        result (λ asked. option_map told asked ≡ asks_batch (rows_of (found_of found.now))) }
 {
     let Some(list) = word_of(found, "LIST") else {
         return Ok(None);
@@ -279,7 +288,8 @@ fn batch_in(alloc: Global, found: &ArgMatches<'_>) -> Result<Option<Question>, M
 
 /// What is asked where these stand in the places of `union`.
 fn union_in(alloc: Global, found: &ArgMatches<'_>) -> Result<Option<Question>, Memory>
-    ensures { IfOk result (λ asked. option_map told asked ≡ asks_union (rows_of (found_of found.now))) }
+    ensures { IfOk
+        result (λ asked. option_map told asked ≡ asks_union (rows_of (found_of found.now))) }
 {
     let Some(first) = word_of(found, "A") else {
         return Ok(None);
@@ -297,7 +307,8 @@ fn union_in(alloc: Global, found: &ArgMatches<'_>) -> Result<Option<Question>, M
 
 /// What is asked where these stand in the places of `intersect`.
 fn intersect_in(alloc: Global, found: &ArgMatches<'_>) -> Result<Option<Question>, Memory>
-    ensures { IfOk result (λ asked. option_map told asked ≡ asks_intersect (rows_of (found_of found.now))) }
+    ensures { IfOk
+        result (λ asked. option_map told asked ≡ asks_intersect (rows_of (found_of found.now))) }
 {
     let Some(first) = word_of(found, "A") else {
         return Ok(None);
@@ -315,7 +326,8 @@ fn intersect_in(alloc: Global, found: &ArgMatches<'_>) -> Result<Option<Question
 
 /// What is asked where these stand in the places of `shrink`.
 fn shrink_in(alloc: Global, found: &ArgMatches<'_>) -> Result<Option<Question>, Memory>
-    ensures { IfOk result (λ asked. option_map told asked ≡ asks_shrink (rows_of (found_of found.now))) }
+    ensures { IfOk
+        result (λ asked. option_map told asked ≡ asks_shrink (rows_of (found_of found.now))) }
 {
     let Some(first) = word_of(found, "A") else {
         return Ok(None);
@@ -346,7 +358,8 @@ fn names_differ(first: &str, second: &str, third: &str) -> bool
 
 /// What is asked where these stand in the places of `empty`.
 fn empty_in(alloc: Global, found: &ArgMatches<'_>) -> Result<Option<Question>, Memory>
-    ensures { IfOk result (λ asked. option_map told asked ≡ asks_empty (rows_of (found_of found.now))) }
+    ensures { IfOk
+        result (λ asked. option_map told asked ≡ asks_empty (rows_of (found_of found.now))) }
 {
     let Some(automaton) = word_of(found, "A") else {
         return Ok(None);
@@ -371,7 +384,8 @@ fn empty_in(alloc: Global, found: &ArgMatches<'_>) -> Result<Option<Question>, M
 
 /// What is asked where these stand in the places of `universal`.
 fn universal_in(alloc: Global, found: &ArgMatches<'_>) -> Result<Option<Question>, Memory>
-    ensures { IfOk result (λ asked. option_map told asked ≡ asks_universal (rows_of (found_of found.now))) }
+    ensures { IfOk
+        result (λ asked. option_map told asked ≡ asks_universal (rows_of (found_of found.now))) }
 {
     let Some(automaton) = word_of(found, "A") else {
         return Ok(None);
@@ -396,7 +410,8 @@ fn universal_in(alloc: Global, found: &ArgMatches<'_>) -> Result<Option<Question
 
 /// What is asked by the subcommand of this name.
 fn asked_by(alloc: Global, name: &str, found: &ArgMatches<'_>) -> Result<Option<Question>, Memory>
-    ensures { IfOk result (λ asked. option_map told asked ≡ asks_by name.now (rows_of (found_of found.now))) }
+    ensures { IfOk
+        result (λ asked. option_map told asked ≡ asks_by name.now (rows_of (found_of found.now))) }
 {
     if name == "include" {
         return include_in(alloc, found);
@@ -445,7 +460,8 @@ fn asked_by(alloc: Global, name: &str, found: &ArgMatches<'_>) -> Result<Option<
 
 /// What is asked by the subcommand that the matches have, if they have one.
 fn asked_in(alloc: Global, matches: &ArgMatches<'_>) -> Result<Option<Question>, Memory>
-    ensures { IfOk result (λ asked. option_map told asked ≡ asks_found (subcommand_rows_of matches.now)) }
+    ensures { IfOk
+        result (λ asked. option_map told asked ≡ asks_found (subcommand_rows_of matches.now)) }
 {
     match matches.subcommand() {
         Some((name, found)) => asked_by(alloc, name, found),
@@ -455,7 +471,9 @@ fn asked_in(alloc: Global, matches: &ArgMatches<'_>) -> Result<Option<Question>,
 
 /// What the whole command line asks.
 fn asked_on(alloc: Global, line: &[&str]) -> Result<Option<Question>, Memory>
-    ensures { IfOk result (λ asked. option_map told asked ≡ asks_on_line (map (λ word. word.now) line.entry.now)) }
+    ensures { IfOk
+        result (λ asked.
+        option_map told asked ≡ asks_on_line (map (λ word. word.now) line.entry.now)) }
 {
     let command = rabit(alloc)?;
     match command.try_get_matches_from(line) {
@@ -500,7 +518,9 @@ fn has_help_word(words: &[String]) -> bool
 
 /// The program's name and the words.
 fn line_of<'a>(alloc: Global, words: &'a [String]) -> Result<Vec<&'a str>, Memory>
-    ensures { IfOk result (λ line. map (λ word. word.now) line.items ≡ codes "rabit" ∷ map string_bytes words.entry.now) }
+    ensures { IfOk
+        result (λ line.
+        map (λ word. word.now) line.items ≡ codes "rabit" ∷ map string_bytes words.entry.now) }
 {
     let mut line = Vec::new(alloc);
     line.push("rabit")?;
@@ -512,7 +532,8 @@ fn line_of<'a>(alloc: Global, words: &'a [String]) -> Result<Vec<&'a str>, Memor
 
 /// What the words after the program's name ask, if they ask anything.
 pub fn question(alloc: Global, words: &[String]) -> Result<Option<Question>, Memory>
-    ensures asked { IfOk result (λ asked. option_map told asked ≡ question_of (map string_bytes words.now)) }
+    ensures asked { IfOk
+        result (λ asked. option_map told asked ≡ question_of (map string_bytes words.now)) }
     ensures proper { IfOk result (λ asked. IfSome asked (λ q. IsProper (told q))) }
 {
     if has_help_word(words) {

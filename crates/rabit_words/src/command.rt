@@ -39,7 +39,8 @@ fn with_place<'a>(
     id: &'a str,
 ) -> Result<Command<'a>, AllocError>
     requires { (out-Command command).has_globals ≡ false }
-    ensures app { IfOk result (λ c. app_of c ≡ with_rule (app_of command.entry) (place id.entry.now)) }
+    ensures app { IfOk
+        result (λ c. app_of c ≡ with_rule (app_of command.entry) (place id.entry.now)) }
     ensures local { IfOk result (λ c. (out-Command c).has_globals ≡ false) }
 {
     command.arg(place(alloc, id))
@@ -52,7 +53,8 @@ fn with_word<'a>(
     id: &'a str,
 ) -> Result<Command<'a>, AllocError>
     requires { (out-Command command).has_globals ≡ false }
-    ensures app { IfOk result (λ c. app_of c ≡ with_rule (app_of command.entry) (option_with_word id.entry.now)) }
+    ensures app { IfOk
+        result (λ c. app_of c ≡ with_rule (app_of command.entry) (option_with_word id.entry.now)) }
     ensures local { IfOk result (λ c. (out-Command c).has_globals ≡ false) }
 {
     command.arg(option_with_word(alloc, id))
@@ -61,7 +63,8 @@ fn with_word<'a>(
 /// The command with `--finite` after its arguments.
 fn with_finite<'a>(alloc: Global, command: Command<'a>) -> Result<Command<'a>, AllocError>
     requires { (out-Command command).has_globals ≡ false }
-    ensures app { IfOk result (λ c. app_of c ≡ with_rule (app_of command.entry) (option_alone (codes "finite"))) }
+    ensures app { IfOk
+        result (λ c. app_of c ≡ with_rule (app_of command.entry) (option_alone (codes "finite"))) }
     ensures local { IfOk result (λ c. (out-Command c).has_globals ≡ false) }
 {
     command.arg(option_alone(alloc, "finite"))
@@ -199,7 +202,8 @@ fn shrink<'a>(alloc: Global) -> Result<Command<'a>, AllocError>
     with_place(alloc, files, "OUT")
 }
 
-/// A command of this name with the places of an automaton, of another that is written, and of a certificate.
+/// A command of this name with the places of an automaton, of another that is written, and of a
+/// certificate.
 fn deciding<'a>(alloc: Global, name: &'a str, other: &'a str) -> Result<Command<'a>, AllocError>
     ensures app { IfOk result (λ c. app_of c ≡ deciding_app name.entry.now other.entry.now) }
     ensures local { IfOk result (λ c. (out-Command c).has_globals ≡ false) }

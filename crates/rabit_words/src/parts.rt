@@ -26,7 +26,8 @@ pub enum Question {
         look: u32,
         /// The most elements of the search, from 1 to 100,000.
         limit: u32,
-        /// How many letters are asked for in the delayed game, from 1 to 4, with a certificate of version 2; None asks for one of version 1.
+        /// How many letters are asked for in the delayed game, from 1 to 4, with a certificate of
+        /// version 2; None asks for one of version 1.
         letters: Option<u32>,
     },
     /// Checks a certificate.
@@ -85,15 +86,18 @@ pub enum Question {
         /// The relation's file.
         relation: String,
     },
-    /// Decides whether two automata accept the same, and writes the certificates of both inclusions.
+    /// Decides whether two automata accept the same, and writes the certificates of both
+    /// inclusions.
     Equal {
         /// The first automaton's file.
         first: String,
         /// The second automaton's file.
         second: String,
-        /// The file that the certificate of whether the first is included in the second is written to.
+        /// The file that the certificate of whether the first is included in the second is written
+        /// to.
         certificate: String,
-        /// The file that the certificate of whether the second is included in the first is written to.
+        /// The file that the certificate of whether the second is included in the first is written
+        /// to.
         converse: String,
     },
     /// Decides inclusions one after the other.
@@ -130,7 +134,8 @@ pub enum Question {
         /// The file that the shorter certificate is written to.
         shorter: String,
     },
-    /// Decides whether an automaton accepts nothing, and writes an automaton that does and the certificate.
+    /// Decides whether an automaton accepts nothing, and writes an automaton that does and the
+    /// certificate.
     Empty {
         /// The automaton's file.
         automaton: String,
@@ -141,7 +146,8 @@ pub enum Question {
         /// Lassos or finite words.
         mode: Mode,
     },
-    /// Decides whether an automaton accepts everything over its labels, and writes an automaton that does and the certificate.
+    /// Decides whether an automaton accepts everything over its labels, and writes an automaton
+    /// that does and the certificate.
     Universal {
         /// The automaton's file.
         automaton: String,

@@ -8,8 +8,12 @@ use Rattle.ranked_product.specs.Rules.{FirstBroken}
 
 -- One rule at most is the first that pairs break.
 abbrev pub BreakIsOne : Type 0
-BreakIsOne = (A B : Automaton) (pairs : List RankedPair) (refusal other : Refusal) → FirstBroken A B pairs refusal → FirstBroken A B pairs other → refusal ≡ other
+BreakIsOne =
+    (A B : Automaton) (pairs : List RankedPair) (refusal other : Refusal)
+    → FirstBroken A B pairs refusal → FirstBroken A B pairs other → refusal ≡ other
 
 -- A ranked product breaks none.
 abbrev pub ProductBreaksNone : Type 0
-ProductBreaksNone = (A B : Automaton) (pairs : List RankedPair) (refusal : Refusal) → FirstBroken A B pairs refusal → IsRankedProduct A B pairs → ⊥
+ProductBreaksNone =
+    (A B : Automaton) (pairs : List RankedPair) (refusal : Refusal) → FirstBroken A B pairs refusal
+    → IsRankedProduct A B pairs → ⊥

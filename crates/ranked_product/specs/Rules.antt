@@ -12,8 +12,8 @@ pub record KeepsRules (A B : Automaton) (pairs : List RankedPair) (x : RankedPai
   pub moves : CoversMoves A B pairs x
   pub ranks : RanksGoOn A B pairs x
 
--- This is the first rule that the pair breaks: 3, its parts are states; 4, its moves lead to pairs of the list; 5,
--- the ranks go on.
+-- This is the first rule that the pair breaks: 3, its parts are states; 4, its moves lead to pairs
+-- of the list; 5, the ranks go on.
 abbrev pub BreaksRule : Automaton → Automaton → List RankedPair → RankedPair → ℕ → Type 0
 BreaksRule A B pairs x rule =
     ((rule ≡ 3) × (IsPairOfStates A B x → ⊥))
@@ -26,8 +26,9 @@ pub record BreaksFirst (A B : Automaton) (pairs : List RankedPair) (place rule :
   pub before : (i : ℕ) → i < place → KeepsRules A B pairs (pair_at pairs i)
   pub here : BreaksRule A B pairs (pair_at pairs place) rule
 
--- The refusal names the first broken rule, 1 that B is deterministic, 2 that the pair of the initial states is there,
--- with item 0, or the first that a pair breaks, with the pair's number from 1.
+-- The refusal names the first broken rule, 1 that B is deterministic, 2 that the pair of the
+-- initial states is there, with item 0, or the first that a pair breaks, with the pair's number
+-- from 1.
 abbrev pub FirstBroken : Automaton → Automaton → List RankedPair → Refusal → Type 0
 FirstBroken A B pairs refusal =
     ((refusal.rule ≡ 1) × (refusal.item ≡ 0) × (IsDeterministic B → ⊥))

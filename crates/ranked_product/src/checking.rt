@@ -79,7 +79,8 @@ fn goes_on(first: &Auto, second: &Auto, pairs: &[RankedPair], pair: RankedPair, 
     requires ascending { AreAscending pairs.now }
     requires states { IsPairOfStates first.now second.now pair }
     requires target { step.target < first.now.states }
-    ensures { IsTrue result ↔ RankGoesOnBy first.now second.now pairs.now pair step.label step.target }
+    ensures { IsTrue result
+        ↔ RankGoesOnBy first.now second.now pairs.now pair step.label step.target }
 {
     match next_state(second, pair.right, step.label) {
         Some(target) => match rank_of(pairs, step.target, target) {
@@ -129,10 +130,10 @@ fn broken_rule(first: &Auto, second: &Auto, pairs: &[RankedPair], pair: RankedPa
     None
 }
 
-/// Checks that the pairs with ranks are a ranked product of the two automata, or tells the first broken rule. The
-/// rules are: 1, the second automaton is deterministic; 2, the pair of the initial states is there; and of each pair
-/// in turn 3, its parts are states; 4, the pairs that its moves lead to are there; 5, the ranks go on along its
-/// moves.
+/// Checks that the pairs with ranks are a ranked product of the two automata, or tells the first
+/// broken rule. The rules are: 1, the second automaton is deterministic; 2, the pair of the initial
+/// states is there; and of each pair in turn 3, its parts are states; 4, the pairs that its moves
+/// lead to are there; 5, the ranks go on along its moves.
 pub fn check(first: &Auto, second: &Auto, pairs: &[RankedPair]) -> Result<(), Refusal>
     requires ascending { AreAscending pairs.now }
     requires few { length pairs.now < 2 ^ 32 }

@@ -31,7 +31,8 @@ fn place_of(pairs: &[RankedPair], left: u32, right: u32) -> usize
     requires { AreAscending pairs.now }
     ensures within { result ≤ length pairs.now }
     ensures before { (i : ℕ) → i < result → IsBefore (pair_at pairs.now i) left right }
-    ensures behind { (i : ℕ) → result ≤ i → i < length pairs.now → IsBefore (pair_at pairs.now i) left right → ⊥ }
+    ensures behind { (i : ℕ) → result ≤ i → i < length pairs.now
+        → IsBefore (pair_at pairs.now i) left right → ⊥ }
 {
     let mut low = 0;
     let mut high = pairs.len();
@@ -50,7 +51,8 @@ fn place_of(pairs: &[RankedPair], left: u32, right: u32) -> usize
 pub(crate) fn rank_of(pairs: &[RankedPair], left: u32, right: u32) -> Option<u32>
     requires { AreAscending pairs.now }
     ensures some { IfSome result (HasRank pairs.now left right) }
-    ensures only { IfSome result (λ rank. (other : ℕ) → HasRank pairs.now left right other → other ≡ rank) }
+    ensures only { IfSome
+        result (λ rank. (other : ℕ) → HasRank pairs.now left right other → other ≡ rank) }
     ensures none { IfNone result (HasPair pairs.now left right → ⊥) }
 {
     let at = place_of(pairs, left, right);

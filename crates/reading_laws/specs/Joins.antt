@@ -22,7 +22,9 @@ ReadAutomataJoin =
 
 -- The joined labels are no more than the labels of both.
 abbrev pub JoinedLabelsAreFew : Type 0
-JoinedLabelsAreFew = (first second : List (List ℕ)) → length (joined_labels first second) ≤ length first + length second
+JoinedLabelsAreFew =
+    (first second : List (List ℕ))
+    → length (joined_labels first second) ≤ length first + length second
 
 -- Both automata are valid, have just these labels, and can be written with them.
 pub record AreOverLabels (labels : List (List ℕ)) (A B : Automaton) : Type 0 where
@@ -40,10 +42,12 @@ JoinIsOverLabels =
     → IsJoined one two joined
     → AreOverLabels joined.labels joined.first joined.second
 
--- Which of two read automata is joined as the first does not matter: where the one includes the other, so it does over the labels of the other order.
+-- Which of two read automata is joined as the first does not matter: where the one includes the
+-- other, so it does over the labels of the other order.
 abbrev pub JoinOrderDoesNotMatter : Type 0
 JoinOrderDoesNotMatter =
-    (text other : List ℕ) (limits bounds : Limits) (one two : Named) (joined converse : Joined) (mode : Mode)
+    (text other : List ℕ) (limits bounds : Limits) (one two : Named) (joined converse : Joined)
+    (mode : Mode)
     → Reads text limits one
     → Reads other bounds two
     → IsJoined one two joined
@@ -51,16 +55,19 @@ JoinOrderDoesNotMatter =
     → Includes joined.first joined.second mode
     → Includes converse.second converse.first mode
 
--- A written automaton has a join with what its text reads as, over its own labels, if a u32 counts them.
+-- A written automaton has a join with what its text reads as, over its own labels, if a u32 counts
+-- them.
 abbrev pub WrittenJoins : Type 0
 WrittenJoins =
     (A : Automaton) (labels names : List (List ℕ)) (limits : Limits) (read : Named)
     → IsWritable A labels
     → length labels < 2 ^ 32
     → Reads (written A labels) limits read
-    → (joined : Joined) × IsJoined (record { auto = A; names = names; labels = labels }) read joined × (joined.labels ≡ labels)
+    → (joined : Joined) × IsJoined (record { auto = A; names = names; labels = labels }) read joined
+    × (joined.labels ≡ labels)
 
--- The text that is written for A reads as an automaton that joins with A and accepts the same in both modes.
+-- The text that is written for A reads as an automaton that joins with A and accepts the same in
+-- both modes.
 pub record ReadsBack (A : Automaton) (labels names : List (List ℕ)) (limits : Limits) : Type 0 where
   pub read : Named
   pub joined : Joined
@@ -69,7 +76,8 @@ pub record ReadsBack (A : Automaton) (labels names : List (List ℕ)) (limits : 
   pub same_labels : joined.labels ≡ labels
   pub same : (mode : Mode) → Same joined.first joined.second mode
 
--- So it is with each automaton that can be written, if its text brings no more than the limits say and a u32 holds the limits.
+-- So it is with each automaton that can be written, if its text brings no more than the limits say
+-- and a u32 holds the limits.
 abbrev pub WrittenIsThere : Type 0
 WrittenIsThere =
     (A : Automaton) (labels names : List (List ℕ)) (limits : Limits)

@@ -27,7 +27,8 @@ pub fn a_written_automaton_joins_with_what_its_text_reads_as()
     ensures { WrittenJoins }
 {}
 
-/// Where the limits leave room, its text reads as an automaton that joins with it and accepts the same.
+/// Where the limits leave room, its text reads as an automaton that joins with it and accepts the
+/// same.
 pub fn a_written_automaton_is_read_back()
     ensures { WrittenIsThere }
 {}

@@ -1,5 +1,5 @@
-//! Joins of automata that were read, and what a written automaton reads as: each law is the contract of a function that does
-//! nothing.
+//! Joins of automata that were read, and what a written automaton reads as: each law is the
+//! contract of a function that does nothing.
 #![tactic(auto)]
 
 mod laws;

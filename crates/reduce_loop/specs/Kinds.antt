@@ -21,20 +21,25 @@ abbrev pub kinds_of : Mode → List Kind
 kinds_of Buchi = Trim ∷ Forward ∷ Backward ∷ Delayed ∷ prunings
 kinds_of Finite = Trim ∷ Forward ∷ Backward ∷ prunings
 
--- B has for its states the classes of A that the closure of a list of pairs, one that is the greatest of its sort, relates both ways.
-pub record IsMerged (A : Automaton) (Greatest : List (ℕ × ℕ) → Type 0) (B : Automaton) : Type 0 where
+-- B has for its states the classes of A that the closure of a list of pairs, one that is the
+-- greatest of its sort, relates both ways.
+pub record IsMerged (A : Automaton) (Greatest : List (ℕ × ℕ) → Type 0)
+    (B : Automaton) : Type 0 where
   pub pairs : List (ℕ × ℕ)
   pub classes : List ℕ
   pub greatest : Greatest pairs
   pub joined : AreClassesOf A.states (Close (Holds pairs)) classes
   pub quotient : IsQuotient A classes B
 
--- The list has just the pairs of the state relation of the greatest delayed relation with n announced letters.
+-- The list has just the pairs of the state relation of the greatest delayed relation with n
+-- announced letters.
 abbrev pub AreDelayedPairs : Automaton → ℕ → List (ℕ × ℕ) → Type 0
-AreDelayedPairs A n S = (X : RankedTriples) × IsGreatestDelayed A n X × ((p q : ℕ) → Holds S p q ↔ AreStateRelated A.labels n X p q)
+AreDelayedPairs A n S =
+    (X : RankedTriples) × IsGreatestDelayed A n X
+    × ((p q : ℕ) → Holds S p q ↔ AreStateRelated A.labels n X p q)
 
--- B is A after a step of this kind, by the greatest relations of A as it is then: the forward and backward ones at the lookahead, the delayed one with
--- as many letters as are announced on A.
+-- B is A after a step of this kind, by the greatest relations of A as it is then: the forward and
+-- backward ones at the lookahead, the delayed one with as many letters as are announced on A.
 abbrev pub After : Automaton → Mode → Foresight → Kind → Automaton → Type 0
 After A mode sight Trim B = IsTrimmed A mode B
 After A mode sight Forward B = IsMerged A (IsGreatestForward A sight.look) B

@@ -1,4 +1,5 @@
--- The log of a reduction: the steps that changed something, in order, each with what it was done by.
+-- The log of a reduction: the steps that changed something, in order, each with what it was done
+-- by.
 use Rattle.std.specs.Prelude.{◌≡◌, ℕ, zero, suc, ◌⊎◌, Option, None, Some, List, [], ◌∷◌, ◌++◌}
 use Rattle.std.specs.List.Sorted.{IsStrictlyIncreasing}
 use Rattle.auto_core.specs.Automaton.{Automaton}
@@ -25,20 +26,24 @@ pub record IsUsefulList (A : Automaton) (mode : Mode) (kept : List ℕ) : Type 0
   pub ascending : IsStrictlyIncreasing kept
   pub useful : AreUseful A mode kept
 
--- The relation is one on the states of A, and its pairs, ascending, are the greatest list of its sort.
-pub record IsRelationOf (A : Automaton) (Greatest : List (ℕ × ℕ) → Type 0) (rel : Relation) : Type 0 where
+-- The relation is one on the states of A, and its pairs, ascending, are the greatest list of its
+-- sort.
+pub record IsRelationOf (A : Automaton) (Greatest : List (ℕ × ℕ) → Type 0)
+    (rel : Relation) : Type 0 where
   pub valid : IsRelation rel
   pub on_states : rel.size ≡ A.states
   pub greatest : Greatest rel.pairs
 
 -- The classes are those of the closure of such a relation.
-pub record IsMergeOf (A : Automaton) (Greatest : List (ℕ × ℕ) → Type 0) (rel : Relation) (classes : List ℕ) : Type 0 where
+pub record IsMergeOf (A : Automaton) (Greatest : List (ℕ × ℕ) → Type 0) (rel : Relation)
+    (classes : List ℕ) : Type 0 where
   pub relation : IsRelationOf A Greatest rel
   pub joined : AreClassesOf A.states (Close (Holds rel.pairs)) classes
 
--- The relation with ranks is the greatest delayed one on A with n announced letters, its triples ascend, and the classes are those of the
--- closure of its state relation.
-pub record IsDelayedMergeOf (A : Automaton) (n : ℕ) (ranks : Ranking) (classes : List ℕ) : Type 0 where
+-- The relation with ranks is the greatest delayed one on A with n announced letters, its triples
+-- ascend, and the classes are those of the closure of its state relation.
+pub record IsDelayedMergeOf (A : Automaton) (n : ℕ) (ranks : Ranking)
+    (classes : List ℕ) : Type 0 where
   pub valid : IsRanking ranks
   pub on_states : ranks.states ≡ A.states
   pub on_labels : ranks.labels ≡ A.labels
@@ -58,31 +63,42 @@ pairs_given (Some rel) = rel.pairs
 
 -- Where pair n has a backward relation, it is given and the greatest of A at the pair's lookahead.
 abbrev pub IsBackOf : Automaton → ℕ → ℕ → Option Relation → Type 0
-IsBackOf A n k back = IsGivenWhere (¬ (n ≡ 1)) (IsRelationOf A (IsGreatestBackward A (look_backward n k))) back
+IsBackOf A n k back =
+    IsGivenWhere (¬ (n ≡ 1)) (IsRelationOf A (IsGreatestBackward A (look_backward n k))) back
 
 -- The same of the forward relation.
 abbrev pub IsAheadOf : Automaton → ℕ → ℕ → Option Relation → Type 0
-IsAheadOf A n k ahead = IsGivenWhere (¬ (n ≡ 2)) (IsRelationOf A (IsGreatestForward A (look_forward n k))) ahead
+IsAheadOf A n k ahead =
+    IsGivenWhere (¬ (n ≡ 2)) (IsRelationOf A (IsGreatestForward A (look_forward n k))) ahead
 
--- Ascending and with the least better one each, these are just the transitions of A that have a better one by pair n over the
--- closures of the greatest relations at lookahead k.
-pub record IsCutOf (A : Automaton) (n k : ℕ) (gone : List Gone) (back ahead : Option Relation) : Type 0 where
+-- Ascending and with the least better one each, these are just the transitions of A that have a
+-- better one by pair n over the closures of the greatest relations at lookahead k.
+pub record IsCutOf (A : Automaton) (n k : ℕ) (gone : List Gone)
+    (back ahead : Option Relation) : Type 0 where
   pub is_back : IsBackOf A n k back
   pub is_ahead : IsAheadOf A n k ahead
-  pub least : AreLeastBetter A n (Close (Holds (pairs_given back))) (Close (Holds (pairs_given ahead))) gone
+  pub least : AreLeastBetter A n (Close (Holds (pairs_given back)))
+      (Close (Holds (pairs_given ahead))) gone
 
--- The entry tells of a step of this kind on A: the useful states, ascending; which relation, the greatest as it is,
--- without being closed, joined the states by its closure, with the class of each; which transitions are gone and by which relations.
+-- The entry tells of a step of this kind on A: the useful states, ascending; which relation, the
+-- greatest as it is, without being closed, joined the states by its closure, with the class of
+-- each; which transitions are gone and by which relations.
 abbrev pub IsStepEntry : Automaton → Mode → Foresight → Kind → Step → Type 0
-IsStepEntry A mode sight Trim entry = (kept : List ℕ) × (entry ≡ step.Trim kept) × IsUsefulList A mode kept
+IsStepEntry A mode sight Trim entry =
+    (kept : List ℕ) × (entry ≡ step.Trim kept) × IsUsefulList A mode kept
 IsStepEntry A mode sight Forward entry =
-    (rel : Relation) × (classes : List ℕ) × (entry ≡ step.Merge (by.Forward sight.look rel) classes) × IsMergeOf A (IsGreatestForward A sight.look) rel classes
+    (rel : Relation) × (classes : List ℕ) × (entry ≡ step.Merge (by.Forward sight.look rel) classes)
+    × IsMergeOf A (IsGreatestForward A sight.look) rel classes
 IsStepEntry A mode sight Backward entry =
-    (rel : Relation) × (classes : List ℕ) × (entry ≡ step.Merge (by.Backward sight.look rel) classes) × IsMergeOf A (IsGreatestBackward A sight.look) rel classes
+    (rel : Relation) × (classes : List ℕ)
+    × (entry ≡ step.Merge (by.Backward sight.look rel) classes)
+    × IsMergeOf A (IsGreatestBackward A sight.look) rel classes
 IsStepEntry A mode sight Delayed entry =
-    (ranks : Ranking) × (classes : List ℕ) × (entry ≡ step.Merge (by.Delayed ranks) classes) × IsDelayedMergeOf A (letters_for A sight.letters) ranks classes
+    (ranks : Ranking) × (classes : List ℕ) × (entry ≡ step.Merge (by.Delayed ranks) classes)
+    × IsDelayedMergeOf A (letters_for A sight.letters) ranks classes
 IsStepEntry A mode sight (Prune n) entry =
-    (gone : List Gone) × (back ahead : Option Relation) × (entry ≡ step.Cut n sight.look gone back ahead) × IsCutOf A n sight.look gone back ahead
+    (gone : List Gone) × (back ahead : Option Relation)
+    × (entry ≡ step.Cut n sight.look gone back ahead) × IsCutOf A n sight.look gone back ahead
 
 -- What is logged of a step from A to B: nothing where it changed nothing, and else its entry alone.
 abbrev pub IsLogged : Automaton → Mode → Foresight → Kind → Automaton → List Step → Type 0
@@ -101,11 +117,15 @@ LogThrough A mode sight (kind ∷ kinds) C log =
     × LogThrough B mode sight kinds C later
     × (log ≡ now ++ later)
 
--- Steps of these kinds lead from A to C, and what is logged of them stands behind what was logged before.
-abbrev pub LogsOn : Automaton → Mode → Foresight → List Kind → List Step → Automaton → List Step → Type 0
-LogsOn A mode sight kinds before C log = (now : List Step) × LogThrough A mode sight kinds C now × (log ≡ before ++ now)
+-- Steps of these kinds lead from A to C, and what is logged of them stands behind what was logged
+-- before.
+abbrev pub LogsOn : Automaton → Mode → Foresight → List Kind → List Step → Automaton → List Step
+    → Type 0
+LogsOn A mode sight kinds before C log =
+    (now : List Step) × LogThrough A mode sight kinds C now × (log ≡ before ++ now)
 
--- n passes that each change the automaton lead from A to C, the next one leaves C as it is, and this is logged of them.
+-- n passes that each change the automaton lead from A to C, the next one leaves C as it is, and
+-- this is logged of them.
 abbrev pub LogPasses : Automaton → Mode → Foresight → ℕ → Automaton → List Step → Type 0
 LogPasses A mode sight zero C log = (C ≡ A) × LogThrough A mode sight (kinds_of mode) A log
 LogPasses A mode sight (suc n) C log =

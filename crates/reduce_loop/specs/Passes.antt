@@ -13,7 +13,8 @@ AreIdle A mode sight kinds = (kind : Kind) → Contains kinds kind → After A m
 -- Steps of these kinds, one after the other, lead from A to C.
 abbrev pub Through : Automaton → Mode → Foresight → List Kind → Automaton → Type 0
 Through A mode sight [] C = C ≡ A
-Through A mode sight (kind ∷ kinds) C = (B : Automaton) × After A mode sight kind B × Through B mode sight kinds C
+Through A mode sight (kind ∷ kinds) C =
+    (B : Automaton) × After A mode sight kind B × Through B mode sight kinds C
 
 -- B is A after one pass.
 abbrev pub IsPass : Automaton → Mode → Foresight → Automaton → Type 0
@@ -22,8 +23,10 @@ IsPass A mode sight B = Through A mode sight (kinds_of mode) B
 -- n passes that each change the automaton lead from A to C, and the next pass leaves C as it is.
 abbrev pub LeadByPasses : Automaton → Mode → Foresight → ℕ → Automaton → Type 0
 LeadByPasses A mode sight zero C = (C ≡ A) × IsPass A mode sight A
-LeadByPasses A mode sight (suc n) C = (B : Automaton) × IsPass A mode sight B × (B ≡ A → ⊥) × LeadByPasses B mode sight n C
+LeadByPasses A mode sight (suc n) C =
+    (B : Automaton) × IsPass A mode sight B × (B ≡ A → ⊥) × LeadByPasses B mode sight n C
 
--- C is the first of A, A after one pass, A after two passes and so on that a further pass leaves as it is.
+-- C is the first of A, A after one pass, A after two passes and so on that a further pass leaves as
+-- it is.
 abbrev pub IsReduced : Automaton → Mode → Foresight → Automaton → Type 0
 IsReduced A mode sight C = (n : ℕ) × LeadByPasses A mode sight n C

@@ -33,7 +33,8 @@ fn has_moves(one: &[Trans], other: &[Trans]) -> bool
 /// Tells whether the same states are accepting in both.
 fn has_accepting(one: &Auto, other: &Auto) -> bool
     requires { one.now.states ≡ other.now.states }
-    ensures { IsTrue result ↔ ((q : ℕ) → q < one.now.states → is_accepting one.now q ≡ is_accepting other.now q) }
+    ensures { IsTrue result
+        ↔ ((q : ℕ) → q < one.now.states → is_accepting one.now q ≡ is_accepting other.now q) }
 {
     for state in 0..one.states() {
         if one.accepting(state) != other.accepting(state) {

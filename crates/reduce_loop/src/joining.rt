@@ -52,7 +52,9 @@ fn classes(alloc: Global, rel: &Rel) -> Result<Classes, Memory>
 /// The automaton whose states are the classes that the closure of the relation joins.
 pub(crate) fn join_states(alloc: Global, automaton: &Auto, rel: &Rel) -> Result<Merged, Memory>
     requires { rel.now.size ≡ automaton.now.states }
-    ensures joined { IfOk result (λ made. AreClassesOf automaton.now.states (Close (Holds rel.now.pairs)) made.classes) }
+    ensures joined { IfOk
+        result (λ made.
+        AreClassesOf automaton.now.states (Close (Holds rel.now.pairs)) made.classes) }
     ensures quotient { IfOk result (λ made. IsQuotient automaton.now made.classes made.automaton) }
     ensures valid { IfOk result (λ _. IsRelation rel.now) }
 {

@@ -11,7 +11,8 @@ use look_game::greatest_at_one;
 use look_round::{Backward, Forward};
 use std::alloc::Global;
 
-/// The greatest relations of an automaton that were found so far, at the lookahead of the reduction and at lookahead 1.
+/// The greatest relations of an automaton that were found so far, at the lookahead of the reduction
+/// and at lookahead 1.
 #[derive(Debug, Drop)]
 pub(crate) struct Known {
     pub(crate) forward: Option<Rel>,
@@ -22,7 +23,13 @@ pub(crate) struct Known {
 
 /// Nothing is known.
 pub(crate) fn nothing_known() -> Known
-    ensures { result ≡ record { forward = None; backward = None; forward_at_one = None; backward_at_one = None } }
+    ensures { result
+        ≡ record {
+          forward = None;
+          backward = None;
+          forward_at_one = None;
+          backward_at_one = None;
+        } }
 {
     Known {
         forward: None,
@@ -41,9 +48,13 @@ pub(crate) fn forward(
 ) -> Result<Rel, Memory>
     requires look_from { 1 ≤ look }
     requires look_upto { look ≤ 6 }
-    requires known { IfSome kept.old (IsRelationOf automaton.now (IsGreatestForward automaton.now look)) }
-    ensures greatest { IfOk result (IsRelationOf automaton.now (IsGreatestForward automaton.now look)) }
-    ensures known { IfOk result (λ _. IfSome kept.new (IsRelationOf automaton.now (IsGreatestForward automaton.now look))) }
+    requires known { IfSome kept.old
+        (IsRelationOf automaton.now (IsGreatestForward automaton.now look)) }
+    ensures greatest { IfOk result
+        (IsRelationOf automaton.now (IsGreatestForward automaton.now look)) }
+    ensures known { IfOk
+        result (λ _.
+        IfSome kept.new (IsRelationOf automaton.now (IsGreatestForward automaton.now look))) }
 {
     match kept {
         Some(rel) => return rel.copied(alloc),
@@ -63,9 +74,13 @@ pub(crate) fn backward(
 ) -> Result<Rel, Memory>
     requires look_from { 1 ≤ look }
     requires look_upto { look ≤ 6 }
-    requires known { IfSome kept.old (IsRelationOf automaton.now (IsGreatestBackward automaton.now look)) }
-    ensures greatest { IfOk result (IsRelationOf automaton.now (IsGreatestBackward automaton.now look)) }
-    ensures known { IfOk result (λ _. IfSome kept.new (IsRelationOf automaton.now (IsGreatestBackward automaton.now look))) }
+    requires known { IfSome kept.old
+        (IsRelationOf automaton.now (IsGreatestBackward automaton.now look)) }
+    ensures greatest { IfOk result
+        (IsRelationOf automaton.now (IsGreatestBackward automaton.now look)) }
+    ensures known { IfOk
+        result (λ _.
+        IfSome kept.new (IsRelationOf automaton.now (IsGreatestBackward automaton.now look))) }
 {
     match kept {
         Some(rel) => return rel.copied(alloc),
@@ -76,8 +91,8 @@ pub(crate) fn backward(
     Ok(rel)
 }
 
-/// The greatest forward relation at lookahead 1, which is kept. It is sought inside the one at the lookahead of the reduction, which is
-/// kept too.
+/// The greatest forward relation at lookahead 1, which is kept. It is sought inside the one at the
+/// lookahead of the reduction, which is kept too.
 fn forward_at_one(
     alloc: Global,
     automaton: &Auto,
@@ -87,11 +102,18 @@ fn forward_at_one(
 ) -> Result<Rel, Memory>
     requires look_from { 1 ≤ look }
     requires look_upto { look ≤ 6 }
-    requires known { IfSome kept.old (IsRelationOf automaton.now (IsGreatestForward automaton.now 1)) }
-    requires wider { IfSome wider.old (IsRelationOf automaton.now (IsGreatestForward automaton.now look)) }
-    ensures greatest { IfOk result (IsRelationOf automaton.now (IsGreatestForward automaton.now 1)) }
-    ensures known { IfOk result (λ _. IfSome kept.new (IsRelationOf automaton.now (IsGreatestForward automaton.now 1))) }
-    ensures wider { IfOk result (λ _. IfSome wider.new (IsRelationOf automaton.now (IsGreatestForward automaton.now look))) }
+    requires known { IfSome kept.old
+        (IsRelationOf automaton.now (IsGreatestForward automaton.now 1)) }
+    requires wider { IfSome wider.old
+        (IsRelationOf automaton.now (IsGreatestForward automaton.now look)) }
+    ensures greatest { IfOk result
+        (IsRelationOf automaton.now (IsGreatestForward automaton.now 1)) }
+    ensures known { IfOk
+        result (λ _.
+        IfSome kept.new (IsRelationOf automaton.now (IsGreatestForward automaton.now 1))) }
+    ensures wider { IfOk
+        result (λ _.
+        IfSome wider.new (IsRelationOf automaton.now (IsGreatestForward automaton.now look))) }
 {
     match kept {
         Some(rel) => return rel.copied(alloc),
@@ -103,8 +125,8 @@ fn forward_at_one(
     Ok(rel)
 }
 
-/// The greatest backward relation at lookahead 1, which is kept. It is sought inside the one at the lookahead of the reduction, which is
-/// kept too.
+/// The greatest backward relation at lookahead 1, which is kept. It is sought inside the one at the
+/// lookahead of the reduction, which is kept too.
 fn backward_at_one(
     alloc: Global,
     automaton: &Auto,
@@ -114,11 +136,18 @@ fn backward_at_one(
 ) -> Result<Rel, Memory>
     requires look_from { 1 ≤ look }
     requires look_upto { look ≤ 6 }
-    requires known { IfSome kept.old (IsRelationOf automaton.now (IsGreatestBackward automaton.now 1)) }
-    requires wider { IfSome wider.old (IsRelationOf automaton.now (IsGreatestBackward automaton.now look)) }
-    ensures greatest { IfOk result (IsRelationOf automaton.now (IsGreatestBackward automaton.now 1)) }
-    ensures known { IfOk result (λ _. IfSome kept.new (IsRelationOf automaton.now (IsGreatestBackward automaton.now 1))) }
-    ensures wider { IfOk result (λ _. IfSome wider.new (IsRelationOf automaton.now (IsGreatestBackward automaton.now look))) }
+    requires known { IfSome kept.old
+        (IsRelationOf automaton.now (IsGreatestBackward automaton.now 1)) }
+    requires wider { IfSome wider.old
+        (IsRelationOf automaton.now (IsGreatestBackward automaton.now look)) }
+    ensures greatest { IfOk result
+        (IsRelationOf automaton.now (IsGreatestBackward automaton.now 1)) }
+    ensures known { IfOk
+        result (λ _.
+        IfSome kept.new (IsRelationOf automaton.now (IsGreatestBackward automaton.now 1))) }
+    ensures wider { IfOk
+        result (λ _.
+        IfSome wider.new (IsRelationOf automaton.now (IsGreatestBackward automaton.now look))) }
 {
     match kept {
         Some(rel) => return rel.copied(alloc),

@@ -1,5 +1,5 @@
-//! Reduction of automata: useless states go, states that simulate one another become one and transitions that have a better one go, until
-//! nothing changes.
+//! Reduction of automata: useless states go, states that simulate one another become one and
+//! transitions that have a better one go, until nothing changes.
 #![tactic(auto)]
 
 mod copying;

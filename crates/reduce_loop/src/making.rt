@@ -36,7 +36,8 @@ fn members(alloc: Global, set: &StateSet, states: u32) -> Result<List<u32>, Memo
 /// The useful states and the initial one stay.
 fn trim(alloc: Global, automaton: &Auto, mode: Mode, sight: Foresight) -> Result<Made, Memory>
     ensures after { IfOk result (λ made. After automaton.now mode sight Kind.Trim made.automaton) }
-    ensures entry { IfOk result (λ made. IsStepEntry automaton.now mode sight Kind.Trim made.entry) }
+    ensures entry { IfOk
+        result (λ made. IsStepEntry automaton.now mode sight Kind.Trim made.entry) }
 {
     let states = automaton.states();
     let set = useful(alloc, automaton, mode)?;
@@ -59,8 +60,10 @@ fn merge_forward(
     requires look_from { 1 ≤ sight.look }
     requires look_upto { sight.look ≤ 6 }
     requires known { AreGreatestOn automaton.now sight.look known.old }
-    ensures after { IfOk result (λ made. After automaton.now mode sight Kind.Forward made.automaton) }
-    ensures entry { IfOk result (λ made. IsStepEntry automaton.now mode sight Kind.Forward made.entry) }
+    ensures after { IfOk
+        result (λ made. After automaton.now mode sight Kind.Forward made.automaton) }
+    ensures entry { IfOk
+        result (λ made. IsStepEntry automaton.now mode sight Kind.Forward made.entry) }
     ensures known { IfOk result (λ _. AreGreatestOn automaton.now sight.look known.new) }
 {
     let rel = forward(alloc, automaton, &mut known.forward, sight.look)?;
@@ -88,8 +91,10 @@ fn merge_backward(
     requires look_from { 1 ≤ sight.look }
     requires look_upto { sight.look ≤ 6 }
     requires known { AreGreatestOn automaton.now sight.look known.old }
-    ensures after { IfOk result (λ made. After automaton.now mode sight Kind.Backward made.automaton) }
-    ensures entry { IfOk result (λ made. IsStepEntry automaton.now mode sight Kind.Backward made.entry) }
+    ensures after { IfOk
+        result (λ made. After automaton.now mode sight Kind.Backward made.automaton) }
+    ensures entry { IfOk
+        result (λ made. IsStepEntry automaton.now mode sight Kind.Backward made.entry) }
     ensures known { IfOk result (λ _. AreGreatestOn automaton.now sight.look known.new) }
 {
     let rel = backward(alloc, automaton, &mut known.backward, sight.look)?;
@@ -106,7 +111,8 @@ fn merge_backward(
     })
 }
 
-/// The greatest delayed relation with as many letters as are announced on the automaton where so many are asked for.
+/// The greatest delayed relation with as many letters as are announced on the automaton where so
+/// many are asked for.
 pub fn greatest_delayed(alloc: Global, automaton: &Auto, asked: u32) -> Result<Delayed, Memory>
     requires few { automaton.now.states ≤ 65535 }
     requires letters_from { 1 ≤ asked }
@@ -115,7 +121,8 @@ pub fn greatest_delayed(alloc: Global, automaton: &Auto, asked: u32) -> Result<D
     ensures labels { IfOk result (λ d. d.labels ≡ automaton.now.labels) }
     ensures letters { IfOk result (λ d. d.letters ≡ letters_for automaton.now asked) }
     ensures valid { IfOk result IsRanking }
-    ensures greatest { IfOk result (λ d. IsGreatestDelayed automaton.now (letters_for automaton.now asked) d.triples) }
+    ensures greatest { IfOk
+        result (λ d. IsGreatestDelayed automaton.now (letters_for automaton.now asked) d.triples) }
 {
     let letters = letters_for(automaton, asked);
     greatest(alloc, automaton, letters)
@@ -131,8 +138,10 @@ fn merge_delayed(
     requires few { automaton.now.states ≤ 65535 }
     requires letters_from { 1 ≤ sight.letters }
     requires letters_upto { sight.letters ≤ 4 }
-    ensures after { IfOk result (λ made. After automaton.now mode sight Kind.Delayed made.automaton) }
-    ensures entry { IfOk result (λ made. IsStepEntry automaton.now mode sight Kind.Delayed made.entry) }
+    ensures after { IfOk
+        result (λ made. After automaton.now mode sight Kind.Delayed made.automaton) }
+    ensures entry { IfOk
+        result (λ made. IsStepEntry automaton.now mode sight Kind.Delayed made.entry) }
 {
     let ranks = greatest_delayed(alloc, automaton, sight.letters)?;
     let rel = ranks.relation(alloc)?;

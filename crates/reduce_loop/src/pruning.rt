@@ -41,7 +41,9 @@ fn removable_by(
     requires pair_upto { pair ≤ 4 }
     requires back { IsBackOf automaton.now pair look back.now }
     requires ahead { IsAheadOf automaton.now pair look ahead.now }
-    ensures { IfOk result (AreLeastBetter automaton.now pair (Close (Holds (pairs_given back.now))) (Close (Holds (pairs_given ahead.now)))) }
+    ensures { IfOk result
+        (AreLeastBetter automaton.now pair (Close (Holds (pairs_given back.now)))
+        (Close (Holds (pairs_given ahead.now)))) }
 {
     let states = automaton.states();
     let closed_back = closure_of(alloc, back, states)?;
@@ -83,8 +85,10 @@ pub(crate) fn prune(
     requires look_from { 1 ≤ sight.look }
     requires look_upto { sight.look ≤ 6 }
     requires known { AreGreatestOn automaton.now sight.look known.old }
-    ensures after { IfOk result (λ made. After automaton.now mode sight (Kind.Prune pair) made.automaton) }
-    ensures entry { IfOk result (λ made. IsStepEntry automaton.now mode sight (Kind.Prune pair) made.entry) }
+    ensures after { IfOk
+        result (λ made. After automaton.now mode sight (Kind.Prune pair) made.automaton) }
+    ensures entry { IfOk
+        result (λ made. IsStepEntry automaton.now mode sight (Kind.Prune pair) made.entry) }
     ensures known { IfOk result (λ _. AreGreatestOn automaton.now sight.look known.new) }
 {
     let look = sight.look;

@@ -75,8 +75,8 @@ fn has_kind(kinds: &[Kind], kind: Kind) -> bool
     false
 }
 
-/// Takes a step, and logs it if it changed something. What is known of the automaton is kept as long as nothing changes, and a step that
-/// is known to change nothing is not taken again.
+/// Takes a step, and logs it if it changed something. What is known of the automaton is kept as
+/// long as nothing changes, and a step that is known to change nothing is not taken again.
 fn take(
     alloc: Global,
     state: Going,
@@ -93,7 +93,10 @@ fn take(
     requires known { AreGreatestOn state.auto sight.look state.known }
     requires idle { AreIdle state.auto mode sight state.idle }
     ensures after { IfOk result (λ new. After state.auto mode sight kind new.auto) }
-    ensures logged { IfOk result (λ new. (now : List Step) × IsLogged state.auto mode sight kind new.auto now × (new.log ≡ state.log ++ now)) }
+    ensures logged { IfOk
+        result (λ new.
+        (now : List Step) × IsLogged state.auto mode sight kind new.auto now
+        × (new.log ≡ state.log ++ now)) }
     ensures known { IfOk result (λ new. AreGreatestOn new.auto sight.look new.known) }
     ensures idle { IfOk result (λ new. AreIdle new.auto mode sight new.idle) }
 {
@@ -127,7 +130,8 @@ fn pass(alloc: Global, state: Going, mode: Mode, sight: Foresight) -> Result<Goi
     requires valid { IsAutomaton state.auto }
     requires known { AreGreatestOn state.auto sight.look state.known }
     requires idle { AreIdle state.auto mode sight state.idle }
-    ensures logs { IfOk result (λ new. LogsOn state.auto mode sight (kinds_of mode) state.log new.auto new.log) }
+    ensures logs { IfOk
+        result (λ new. LogsOn state.auto mode sight (kinds_of mode) state.log new.auto new.log) }
     ensures known { IfOk result (λ new. AreGreatestOn new.auto sight.look new.known) }
     ensures idle { IfOk result (λ new. AreIdle new.auto mode sight new.idle) }
 {
@@ -148,8 +152,9 @@ fn finished(state: Going) -> Reduced
     }
 }
 
-/// The reduced automaton: the steps are taken in order, each by the greatest relations of the automaton as it is then, in passes until
-/// a pass changes nothing. The log has the steps that changed something.
+/// The reduced automaton: the steps are taken in order, each by the greatest relations of the
+/// automaton as it is then, in passes until a pass changes nothing. The log has the steps that
+/// changed something.
 fn reduce_by(
     alloc: Global,
     automaton: &Auto,
@@ -176,16 +181,19 @@ fn reduce_by(
     }
 }
 
-/// The reduced automaton, with lookahead `look` in the forward and backward games and one announced letter in the delayed one, and the steps that
-/// changed something.
+/// The reduced automaton, with lookahead `look` in the forward and backward games and one announced
+/// letter in the delayed one, and the steps that changed something.
 pub fn reduce(alloc: Global, automaton: &Auto, mode: Mode, look: u32) -> Result<Reduced, Memory>
     requires few { automaton.now.states ≤ 65535 }
     requires look_from { 1 ≤ look }
     requires look_upto { look ≤ 6 }
-    ensures reduced { IfOk result (λ r. IsReduced automaton.now mode (record { look = look; letters = 1 }) r.auto) }
-    ensures log { IfOk result (λ r. IsLog automaton.now mode (record { look = look; letters = 1 }) r.auto r.log) }
+    ensures reduced { IfOk
+        result (λ r. IsReduced automaton.now mode (record { look = look; letters = 1 }) r.auto) }
+    ensures log { IfOk
+        result (λ r. IsLog automaton.now mode (record { look = look; letters = 1 }) r.auto r.log) }
     ensures same { IfOk result (λ r. Same automaton.now r.auto mode) }
-    ensures settled { IfOk result (λ r. IsSettled r.auto mode (record { look = look; letters = 1 })) }
+    ensures settled { IfOk
+        result (λ r. IsSettled r.auto mode (record { look = look; letters = 1 })) }
 {
     reduce_by(alloc, automaton, mode, Foresight { look, letters: 1 })
 }
@@ -203,10 +211,15 @@ pub fn reduce_ahead(
     requires look_upto { look ≤ 6 }
     requires letters_from { 1 ≤ letters }
     requires letters_upto { letters ≤ 4 }
-    ensures reduced { IfOk result (λ r. IsReduced automaton.now mode (record { look = look; letters = letters }) r.auto) }
-    ensures log { IfOk result (λ r. IsLog automaton.now mode (record { look = look; letters = letters }) r.auto r.log) }
+    ensures reduced { IfOk
+        result (λ r.
+        IsReduced automaton.now mode (record { look = look; letters = letters }) r.auto) }
+    ensures log { IfOk
+        result (λ r.
+        IsLog automaton.now mode (record { look = look; letters = letters }) r.auto r.log) }
     ensures same { IfOk result (λ r. Same automaton.now r.auto mode) }
-    ensures settled { IfOk result (λ r. IsSettled r.auto mode (record { look = look; letters = letters })) }
+    ensures settled { IfOk
+        result (λ r. IsSettled r.auto mode (record { look = look; letters = letters })) }
 {
     reduce_by(alloc, automaton, mode, Foresight { look, letters })
 }

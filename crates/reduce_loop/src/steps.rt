@@ -29,7 +29,8 @@ pub enum Kind {
 pub struct Foresight {
     /// The lookahead of the forward and backward games: at most so many moves of Spoiler's.
     pub look: u32,
-    /// How many letters are asked for in the delayed game; fewer are announced where there would be too many triples.
+    /// How many letters are asked for in the delayed game; fewer are announced where there would be
+    /// too many triples.
     pub letters: u32,
 }
 
@@ -80,9 +81,11 @@ pub enum Step {
         look: u32,
         /// The transitions, ascending, each with the least better one.
         gone: List<Gone>,
-        /// The greatest backward relation, given as it is, without being closed, if the pair has one.
+        /// The greatest backward relation, given as it is, without being closed, if the pair has
+        /// one.
         back: Option<Rel>,
-        /// The greatest forward relation, given as it is, without being closed, if the pair has one.
+        /// The greatest forward relation, given as it is, without being closed, if the pair has
+        /// one.
         ahead: Option<Rel>,
     },
 }

@@ -5,7 +5,8 @@ use reduce_loop::{MergeBy, Reduced, Step, is_same_automaton, reduce_ahead};
 use std::test::Fail;
 use test_inputs::{FORKED, built, step};
 
-/// With how many announced letters the first step merged by the delayed relation; None where it didn't.
+/// With how many announced letters the first step merged by the delayed relation; None where it
+/// didn't.
 fn letters_of(reduced: &Reduced) -> Option<u32> {
     match reduced.log.as_slice().first() {
         Some(

@@ -36,7 +36,8 @@ fn relate(rel: &mut Rel, p: u32, q: u32)
 fn preorder(alloc: Global, states: u32, p: u32, q: u32) -> Result<Rel, Memory>
     ensures size { IfOk result (λ r. r.size ≡ states) }
     ensures reflexive { IfOk result (λ r. (s : ℕ) → s < r.size → Holds r.pairs s s) }
-    ensures transitive { IfOk result (λ r. (s t u : ℕ) → Holds r.pairs s t → Holds r.pairs t u → Holds r.pairs s u) }
+    ensures transitive { IfOk
+        result (λ r. (s t u : ℕ) → Holds r.pairs s t → Holds r.pairs t u → Holds r.pairs s u) }
 {
     let mut rel = Rel::empty(alloc, states)?;
     relate(&mut rel, p, q);

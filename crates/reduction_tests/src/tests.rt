@@ -6,7 +6,8 @@ use std::alloc::Global;
 use std::test::Fail;
 use test_inputs::{Small, built};
 
-/// How many states and transitions are left, and how many steps changed something; None for another lookahead.
+/// How many states and transitions are left, and how many steps changed something; None for another
+/// lookahead.
 fn counts(
     alloc: Global,
     small: &Small<'_>,

@@ -31,8 +31,8 @@ fn rights_of(
     Ok(rights)
 }
 
-/// A row for each of the states below `lefts` that the relation holds with one of the `rights` states from `offset` on. The rows number
-/// these from 0.
+/// A row for each of the states below `lefts` that the relation holds with one of the `rights`
+/// states from `offset` on. The rows number these from 0.
 pub fn rows_of(
     alloc: Global,
     rel: &Rel,

@@ -8,7 +8,8 @@ use std::simd::prelude::*;
 fn are_four_equal(row: &[u64], other: &[u64], at: usize) -> bool
     requires row { at + 4 ≤ length row.now }
     requires other { at + 4 ≤ length other.now }
-    ensures { result ≡ true → (k : ℕ) → at ≤ k → k < at + 4 → slice_index row.now k ≡ slice_index other.now k }
+    ensures { result ≡ true → (k : ℕ) → at ≤ k → k < at + 4
+        → slice_index row.now k ≡ slice_index other.now k }
 {
     let differing = u64x4::from_slice(&row[at..]) ^ u64x4::from_slice(&other[at..]);
     differing.reduce_or() == 0

@@ -1,5 +1,6 @@
-//! Whole steps over rows of bits: the next bit of a row, whether it has no other bit than one, whether two rows are the same, meet, or one is within another,
-//! and rows of a table written, cleared or narrowed word by word.
+//! Whole steps over rows of bits: the next bit of a row, whether it has no other bit than one,
+//! whether two rows are the same, meet, or one is within another, and rows of a table written,
+//! cleared or narrowed word by word.
 #![tactic(auto)]
 
 mod bits;

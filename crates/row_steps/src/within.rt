@@ -9,7 +9,8 @@ use std::simd::prelude::*;
 fn are_four_within(row: &[u64], other: &[u64], at: usize) -> bool
     requires row { at + 4 ≤ length row.now }
     requires other { at + 4 ≤ length other.now }
-    ensures { result ≡ true → (i : ℕ) → at * 64 ≤ i → i < (at + 4) * 64 → HasBit row.now i → HasBit other.now i }
+    ensures { result ≡ true → (i : ℕ) → at * 64 ≤ i → i < (at + 4) * 64 → HasBit row.now i
+        → HasBit other.now i }
 {
     let missing = u64x4::from_slice(&row[at..]) & !u64x4::from_slice(&other[at..]);
     missing.reduce_or() == 0

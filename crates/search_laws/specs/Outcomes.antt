@@ -10,10 +10,12 @@ use Rattle.auto_core.specs.declared.parts.Mode.TheVariants.{Buchi}
 
 -- A search ends in one way.
 abbrev pub OneOutcome : Type 0
-OneOutcome = (A B : Automaton) (S : List (ℕ × ℕ)) (limit : ℕ) (o p : Outcome Entry) → SearchEnds A B S limit o → SearchEnds A B S limit p → o ≡ p
+OneOutcome =
+    (A B : Automaton) (S : List (ℕ × ℕ)) (limit : ℕ) (o p : Outcome Entry)
+    → SearchEnds A B S limit o → SearchEnds A B S limit p → o ≡ p
 
--- The origins of the elements name transitions and earlier elements that fit, and the arcs that they make are those of the
--- elements.
+-- The origins of the elements name transitions and earlier elements that fit, and the arcs that
+-- they make are those of the elements.
 pub record HaveOrigins (A : Automaton) (es : List Entry) : Type 0 where
   pub placed : ArePlaced A (origins_in es)
   pub arcs : arcs_of A (origins_in es) ≡ arcs_in es
@@ -21,39 +23,58 @@ pub record HaveOrigins (A : Automaton) (es : List Entry) : Type 0 where
 -- That is so for each closed list, and for each that is longer than the limit.
 abbrev pub OriginsFit : Type 0
 OriginsFit = (A B : Automaton) (S : List (ℕ × ℕ)) (limit : ℕ) (es : List Entry) →
-    (SearchEnds A B S limit (Closed es) → HaveOrigins A es) × (SearchEnds A B S limit (Limit es) → HaveOrigins A es)
+    (SearchEnds A B S limit (Closed es) → HaveOrigins A es)
+    × (SearchEnds A B S limit (Limit es) → HaveOrigins A es)
 
 -- A closed list is a closed set: the flags may be any that tell which of its elements are live.
 abbrev pub ClosedListIsClosedSet : Type 0
-ClosedListIsClosedSet = (A B : Automaton) (S : List (ℕ × ℕ)) (limit : ℕ) (es : List Entry) (live : ℕ → Bool) → IsAutomaton B → IsGreatestForward B 1 S →
-    SearchEnds A B S limit (Closed es) → TellsLive (supergraph_rules A B S) es live → ClosedSet A B S (arcs_in es) live
+ClosedListIsClosedSet =
+    (A B : Automaton) (S : List (ℕ × ℕ)) (limit : ℕ) (es : List Entry) (live : ℕ → Bool)
+    → IsAutomaton B → IsGreatestForward B 1 S →
+    SearchEnds A B S limit (Closed es) → TellsLive (supergraph_rules A B S) es live
+    → ClosedSet A B S (arcs_in es) live
 
 -- So the second automaton accepts each lasso that the first accepts.
 abbrev pub ClosedListIncludes : Type 0
-ClosedListIncludes = (A B : Automaton) (S : List (ℕ × ℕ)) (limit : ℕ) (es : List Entry) (live : ℕ → Bool) → IsAutomaton B → IsGreatestForward B 1 S →
-    SearchEnds A B S limit (Closed es) → TellsLive (supergraph_rules A B S) es live → Includes A B Buchi
+ClosedListIncludes =
+    (A B : Automaton) (S : List (ℕ × ℕ)) (limit : ℕ) (es : List Entry) (live : ℕ → Bool)
+    → IsAutomaton B → IsGreatestForward B 1 S →
+    SearchEnds A B S limit (Closed es) → TellsLive (supergraph_rules A B S) es live
+    → Includes A B Buchi
 
 -- No live element of a closed list subsumes another.
 abbrev pub LiveOnesStandApart : Type 0
-LiveOnesStandApart = (A B : Automaton) (S : List (ℕ × ℕ)) (limit : ℕ) (es : List Entry) → SearchEnds A B S limit (Closed es) →
-    (i j : ℕ) (x y : Entry) → (i ≡ j → ⊥) → At es i x → At es j y → StaysLive (supergraph_rules A B S) es i → StaysLive (supergraph_rules A B S) es j →
+LiveOnesStandApart =
+    (A B : Automaton) (S : List (ℕ × ℕ)) (limit : ℕ) (es : List Entry)
+    → SearchEnds A B S limit (Closed es) →
+    (i j : ℕ) (x y : Entry) → (i ≡ j → ⊥) → At es i x → At es j y
+    → StaysLive (supergraph_rules A B S) es i → StaysLive (supergraph_rules A B S) es j →
     Subsumes (Holds S) (super_entry B x) (super_entry B y) → ⊥
 
--- The words of a pair that the search tells apart are a lasso that the first automaton accepts and the second does not.
+-- The words of a pair that the search tells apart are a lasso that the first automaton accepts and
+-- the second does not.
 abbrev pub ApartSeparates : Type 0
-ApartSeparates = (A B : Automaton) (S : List (ℕ × ℕ)) (limit : ℕ) (x y : Entry) → SearchEnds A B S limit (Apart x y) → SeparatesLasso A B x.arc.word y.arc.word
+ApartSeparates =
+    (A B : Automaton) (S : List (ℕ × ℕ)) (limit : ℕ) (x y : Entry)
+    → SearchEnds A B S limit (Apart x y) → SeparatesLasso A B x.arc.word y.arc.word
 
--- A list that is longer than the limit has limit + 1 elements, whose supergraphs are pairwise different, and none is subsumed
--- by an earlier one.
+-- A list that is longer than the limit has limit + 1 elements, whose supergraphs are pairwise
+-- different, and none is subsumed by an earlier one.
 abbrev pub LimitLists : Type 0
-LimitLists = (A B : Automaton) (S : List (ℕ × ℕ)) (limit : ℕ) (es : List Entry) → IsAutomaton B → IsGreatestForward B 1 S →
-    SearchEnds A B S limit (Limit es) → AreListed A B (limit + 1) (origins_in es) × NoneSubsumedBefore A B S (origins_in es)
+LimitLists =
+    (A B : Automaton) (S : List (ℕ × ℕ)) (limit : ℕ) (es : List Entry) → IsAutomaton B
+    → IsGreatestForward B 1 S →
+    SearchEnds A B S limit (Limit es)
+    → AreListed A B (limit + 1) (origins_in es) × NoneSubsumedBefore A B S (origins_in es)
 
 -- Some element of a list subsumes x just where some live one does.
 abbrev pub LiveOnesAreEnough : Type 0
-LiveOnesAreEnough = (A B : Automaton) (S : List (ℕ × ℕ)) (es : List Entry) (live : ℕ → Bool) (x : Entry) → IsGreatestForward B 1 S →
+LiveOnesAreEnough =
+    (A B : Automaton) (S : List (ℕ × ℕ)) (es : List Entry) (live : ℕ → Bool) (x : Entry)
+    → IsGreatestForward B 1 S →
     TellsLive (supergraph_rules A B S) es live →
-    HasSubsumer (supergraph_rules A B S) es x ↔ ((i : ℕ) × LiveSubsumes (supergraph_rules A B S) es x i)
+    HasSubsumer (supergraph_rules A B S) es x
+    ↔ ((i : ℕ) × LiveSubsumes (supergraph_rules A B S) es x i)
 
 -- The greatest relation is an order on the states.
 abbrev pub GreatestIsAnOrder : Type 0

@@ -1,5 +1,6 @@
-//! The laws of the two searches, for a closed set of supergraphs (over lassos) and for one of pairs of a state and a set (on
-//! finite words): each law is the contract of a function that does nothing.
+//! The laws of the two searches, for a closed set of supergraphs (over lassos) and for one of pairs
+//! of a state and a set (on finite words): each law is the contract of a function that does
+//! nothing.
 #![tactic(auto)]
 
 mod outcomes;

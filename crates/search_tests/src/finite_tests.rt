@@ -21,7 +21,8 @@ fn word(alloc: Global, letters: &[u32]) -> Result<Word, Memory> {
     Ok(list)
 }
 
-/// How often the run goes through the loop before and after, and how many places it has; zeros where there is no run.
+/// How often the run goes through the loop before and after, and how many places it has; zeros
+/// where there is no run.
 fn counts(
     alloc: Global,
     automaton: &Auto,

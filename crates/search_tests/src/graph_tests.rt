@@ -1,4 +1,5 @@
-//! Graphs of words, called directly: the arcs that stay when a graph is minimised, and a graph extended by moves and by rows.
+//! Graphs of words, called directly: the arcs that stay when a graph is minimised, and a graph
+//! extended by moves and by rows.
 
 ghost use Rattle.std.specs.Prelude.{◌≡◌, ◌*◌, ◌^◌, ◌<◌, ◌≤◌, length, IfOk};
 ghost use Rattle.bit_rel.specs.Relation.{IsPreorder};
@@ -29,7 +30,8 @@ fn automaton_of(alloc: Global, moves: &[Trans], accepting: &[u32]) -> Result<Aut
     }
 }
 
-/// The order that relates state 0 to state 1, which goes on where state 0 does not, and each state to itself.
+/// The order that relates state 0 to state 1, which goes on where state 0 does not, and each state
+/// to itself.
 fn order(alloc: Global) -> Result<Rel, Memory>
     ensures size { IfOk result (λ r. r.size ≡ 2) }
     ensures order { IfOk result (λ r. IsPreorder 2 r.pairs) }
@@ -38,7 +40,8 @@ fn order(alloc: Global) -> Result<Rel, Memory>
     direct_sim::preorder(alloc, &automaton, 1)
 }
 
-/// Minimises the letter's graph in the block, and tells the values of the arcs from state 0 to both states that stay.
+/// Minimises the letter's graph in the block, and tells the values of the arcs from state 0 to both
+/// states that stay.
 fn minimised(order: &Rel, automaton: &Auto, block: &mut [u64]) -> (u8, u8)
     requires order { IsPreorder order.now.size order.now.pairs }
     requires size { order.now.size ≡ 2 }
@@ -54,7 +57,8 @@ fn minimised(order: &Rel, automaton: &Auto, block: &mut [u64]) -> (u8, u8)
     )
 }
 
-/// The values of the arcs from state 0 to both states that stay of those of a letter which leads there, with these states accepting.
+/// The values of the arcs from state 0 to both states that stay of those of a letter which leads
+/// there, with these states accepting.
 fn left_of(alloc: Global, accepting: &[u32]) -> Result<(u8, u8), Memory> {
     let order = order(alloc)?;
     let automaton = automaton_of(alloc, &[step(0, 0), step(0, 1)], accepting)?;
@@ -62,7 +66,8 @@ fn left_of(alloc: Global, accepting: &[u32]) -> Result<(u8, u8), Memory> {
     Ok(minimised(&order, &automaton, &mut block))
 }
 
-/// An automaton of one letter whose states lead to the next one and to the first, with the last state accepting.
+/// An automaton of one letter whose states lead to the next one and to the first, with the last
+/// state accepting.
 fn returning(alloc: Global, states: u32) -> Result<Auto, Memory>
     requires { (1 ≤ states) × (states < 2 ^ 16) }
     ensures { IfOk result (λ a. a.states ≡ states) }
@@ -78,7 +83,8 @@ fn returning(alloc: Global, states: u32) -> Result<Auto, Memory>
     }
 }
 
-/// Extends the graph of the letter by the letter, once by moves and once by rows, and tells whether both graphs are the same.
+/// Extends the graph of the letter by the letter, once by moves and once by rows, and tells whether
+/// both graphs are the same.
 fn is_extended_alike(
     automaton: &Auto,
     letter: &mut [u64],
@@ -86,8 +92,10 @@ fn is_extended_alike(
     by_rows: &mut [u64],
 ) -> bool
     requires letter { length letter.old ≡ 2 * automaton.now.states * width_of automaton.now.states }
-    requires by_moves { length by_moves.old ≡ 2 * automaton.now.states * width_of automaton.now.states }
-    requires by_rows { length by_rows.old ≡ 2 * automaton.now.states * width_of automaton.now.states }
+    requires by_moves { length by_moves.old
+        ≡ 2 * automaton.now.states * width_of automaton.now.states }
+    requires by_rows { length by_rows.old
+        ≡ 2 * automaton.now.states * width_of automaton.now.states }
 {
     graph_rows::letter(automaton, 0, letter);
     graph_rows::extend(automaton, 0, letter, by_moves);

@@ -1,4 +1,5 @@
-//! Tests of the searches and of what they stand on: acceptance, graphs of words, searches for a closed set, and simulations across two automata.
+//! Tests of the searches and of what they stand on: acceptance, graphs of words, searches for a
+//! closed set, and simulations across two automata.
 #![tactic(auto)]
 
 #[cfg(test)]

@@ -127,7 +127,8 @@ fn under(element: u32, origin: Origin) -> Element {
     }
 }
 
-/// The lasso that the search tells the two apart by, prefix before loop; none where it ends otherwise.
+/// The lasso that the search tells the two apart by, prefix before loop; none where it ends
+/// otherwise.
 fn told_apart(
     alloc: Global,
     first: &str,
@@ -273,8 +274,9 @@ fn close_alike(one: &Outcome, other: &Outcome, most: u64) -> bool {
         && are_same_steps(one.steps.as_slice(), other.steps.as_slice())
 }
 
-/// Whether a search of the text's automaton in itself, in a pool with one block of ones, leaves that block as it was and alone, leaves a
-/// free block for each live element, and closes as a search in a pool of its own does.
+/// Whether a search of the text's automaton in itself, in a pool with one block of ones, leaves
+/// that block as it was and alone, leaves a free block for each live element, and closes as a
+/// search in a pool of its own does.
 fn leaves_a_block_of_ones(alloc: Global, text: &str) -> Result<bool, Memory> {
     let pair = pair_of(alloc, text, text)?;
     let order = direct_sim::relation(alloc, &pair.second, 1)?;

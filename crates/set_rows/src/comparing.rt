@@ -10,14 +10,16 @@ use auto_core::{Auto, rows};
 use bit_rel::Rel;
 use row_steps::meets;
 
-/// Writes the states that the order relates to some member of the row's set. Another set is a subset of what is written just
-/// where the order relates each of its members to a member of the row's set (`covering`).
+/// Writes the states that the order relates to some member of the row's set. Another set is a
+/// subset of what is written just where the order relates each of its members to a member of the
+/// row's set (`covering`).
 pub fn write_below(order: &Rel, row: &[u64], out: &mut [u64])
     requires row { IsRow order.now.size row.now }
     requires len { length out.old ≡ (order.now.size + 63) / 64 }
     ensures row { IsRow order.now.size out.new }
     ensures members { (q : ℕ) → HasBit out.new q ↔ IsBelow (Holds order.now.pairs) row.now q }
-    ensures covering { (other : List ℕ) → IsSubset other out.new ↔ IsCovered (Holds order.now.pairs) other row.now }
+    ensures covering { (other : List ℕ)
+        → IsSubset other out.new ↔ IsCovered (Holds order.now.pairs) other row.now }
 {
     rows::clear_row(out);
     for state in 0..order.size() {
@@ -27,18 +29,21 @@ pub fn write_below(order: &Rel, row: &[u64], out: &mut [u64])
     }
 }
 
-/// Tells whether the order relates the state, if it is a member of the first set, to a member of the second.
+/// Tells whether the order relates the state, if it is a member of the first set, to a member of
+/// the second.
 fn is_covered(order: &Rel, state: u32, row: &[u64], other: &[u64]) -> bool
     requires is_state { state < order.now.size }
     requires row { IsRow order.now.size row.now }
     requires other { IsRow order.now.size other.now }
-    ensures { IsTrue result ↔ (HasBit row.now state → IsBelow (Holds order.now.pairs) other.now state) }
+    ensures { IsTrue result
+        ↔ (HasBit row.now state → IsBelow (Holds order.now.pairs) other.now state) }
 {
     !rows::has_bit(row, state as usize) || meets(order.row(state), other)
 }
 
-/// Tells whether the order relates each member of the first set to a member of the second. Where many sets are compared with one
-/// and the same second set, `write_below` and then `subset` is faster.
+/// Tells whether the order relates each member of the first set to a member of the second. Where
+/// many sets are compared with one and the same second set, `write_below` and then `subset` is
+/// faster.
 pub fn covers(order: &Rel, row: &[u64], other: &[u64]) -> bool
     requires row { IsRow order.now.size row.now }
     requires other { IsRow order.now.size other.now }

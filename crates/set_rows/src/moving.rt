@@ -24,7 +24,8 @@ fn add_moves(automaton: &Auto, label: u32, from: u32, out: &mut [u64])
     requires is_state { from < automaton.now.states }
     requires row { IsRow automaton.now.states out.old }
     ensures row { IsRow automaton.now.states out.new }
-    ensures members { (q : ℕ) → HasBit out.new q ↔ (HasBit out.old q ⊎ Moves automaton.now from label q) }
+    ensures members { (q : ℕ)
+        → HasBit out.new q ↔ (HasBit out.old q ⊎ Moves automaton.now from label q) }
 {
     let span = automaton.successors(from, label);
     let transitions = automaton.transitions();
@@ -38,7 +39,8 @@ pub fn write_after(automaton: &Auto, label: u32, from: &[u64], out: &mut [u64])
     requires from { IsRow automaton.now.states from.now }
     requires len { length out.old ≡ (automaton.now.states + 63) / 64 }
     ensures row { IsRow automaton.now.states out.new }
-    ensures members { (q : ℕ) → HasBit out.new q ↔ set_after automaton.now (HasBit from.now) label q }
+    ensures members { (q : ℕ)
+        → HasBit out.new q ↔ set_after automaton.now (HasBit from.now) label q }
 {
     rows::clear_row(out);
     for state in 0..automaton.states() {

@@ -9,8 +9,8 @@ use crate::moving::{write_after, write_one};
 use auto_core::{Auto, Memory, rows};
 use std::alloc::Global;
 
-/// Writes the states that runs on the word lead to from the initial state: letter by letter, the set after it. The other row is
-/// used on the way.
+/// Writes the states that runs on the word lead to from the initial state: letter by letter, the
+/// set after it. The other row is used on the way.
 fn write_reached(automaton: &Auto, word: &[u32], row: &mut [u64], next: &mut [u64])
     requires row { length row.old ≡ (automaton.now.states + 63) / 64 }
     requires next { length next.old ≡ (automaton.now.states + 63) / 64 }
@@ -24,10 +24,12 @@ fn write_reached(automaton: &Auto, word: &[u32], row: &mut [u64], next: &mut [u6
     }
 }
 
-/// The states that runs on the word lead to from the initial state. A letter that the automaton has no transitions for is allowed.
+/// The states that runs on the word lead to from the initial state. A letter that the automaton has
+/// no transitions for is allowed.
 pub fn reached(alloc: Global, automaton: &Auto, word: &[u32]) -> Result<Vec<u64>, Memory>
     ensures row { IfOk result (λ row. IsRow automaton.now.states row.items) }
-    ensures members { IfOk result (λ row. (q : ℕ) → HasBit row.items q ↔ set_of automaton.now word.now q) }
+    ensures members { IfOk
+        result (λ row. (q : ℕ) → HasBit row.items q ↔ set_of automaton.now word.now q) }
 {
     let width = rows::words_for(automaton.states());
     let mut row = vec![in alloc; 0; width]?;

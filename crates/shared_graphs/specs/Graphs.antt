@@ -30,8 +30,9 @@ pub data Keeping : Type 0 where
   AsTheyAre : Keeping
   MinimisedBy : List (ℕ × ℕ) → Keeping
 
--- The kept graph and the whole one cover each other, and no arc of the kept one is dominated. It need not be a part of the whole one: the kept graph
--- of a longer word is what is left of the extension of a kept graph, where an arc may have a lesser value than in the graph of the word.
+-- The kept graph and the whole one cover each other, and no arc of the kept one is dominated. It
+-- need not be a part of the whole one: the kept graph of a longer word is what is left of the
+-- extension of a kept graph, where an arc may have a lesser value than in the graph of the word.
 pub record IsMinimised (S : List (ℕ × ℕ)) (kept whole : words.Graph) : Type 0 where
   pub cover : CoverEachOther (Holds S) whole kept
   pub minimal : IsMinimal (Holds S) kept
@@ -42,12 +43,14 @@ StandsFor AsTheyAre kept graph = SameGraph kept graph
 StandsFor (MinimisedBy S) kept graph = IsMinimised S kept graph
 
 -- The block has a graph that stands for this one.
-pub record IsBlockOf (B : Automaton) (keeping : Keeping) (graph : words.Graph) (block : List ℕ) : Type 0 where
+pub record IsBlockOf (B : Automaton) (keeping : Keeping) (graph : words.Graph)
+    (block : List ℕ) : Type 0 where
   pub formed : IsFormed B.states block
   pub stands : StandsFor keeping (block_graph B.states block) graph
 
 -- The graph with this number stands for this one.
-pub record IsGraphOf (B : Automaton) (keeping : Keeping) (graph : words.Graph) (graphs : List (List ℕ)) (number : ℕ) : Type 0 where
+pub record IsGraphOf (B : Automaton) (keeping : Keeping) (graph : words.Graph)
+    (graphs : List (List ℕ)) (number : ℕ) : Type 0 where
   pub within : number < length graphs
   pub block : IsBlockOf B keeping graph (block_at graphs number)
 
@@ -74,16 +77,19 @@ kept_under keeping (suc n) = keeping
 
 -- The number is that of the letter's graph, or of the graph extended by the letter.
 abbrev pub FitsLetter : Automaton → Keeping → List (List ℕ) → ℕ → ℕ → Answer → Type 0
-FitsLetter B keeping graphs under label (Number k) = IsGraphOf B (kept_under keeping under) (letter_graph B label) graphs k
+FitsLetter B keeping graphs under label (Number k) =
+    IsGraphOf B (kept_under keeping under) (letter_graph B label) graphs k
 FitsLetter B keeping graphs under label (Truth is) = Unit {0}
 
 abbrev pub FitsStep : Automaton → Keeping → List (List ℕ) → ℕ → ℕ → Answer → Type 0
 FitsStep B keeping graphs from label (Number k) =
-    (from < length graphs) × IsGraphOf B keeping (extended B (block_graph B.states (block_at graphs from)) label) graphs k
+    (from < length graphs)
+    × IsGraphOf B keeping (extended B (block_graph B.states (block_at graphs from)) label)
+    graphs k
 FitsStep B keeping graphs from label (Truth is) = Unit {0}
 
--- The blocks are those of graphs of the automaton's states, with room for the block of a letter, and what is remembered of graphs, which are
--- kept so, is so.
+-- The blocks are those of graphs of the automaton's states, with room for the block of a letter,
+-- and what is remembered of graphs, which are kept so, is so.
 pub record IsStock (B : Automaton) (keeping : Keeping) (g : Graphs) : Type 0 where
   pub some : 1 ≤ B.states
   pub size : g.graphs.words ≡ 2 * B.states * width_of B.states

@@ -13,7 +13,8 @@ abbrev pub NothingTold : List (Option Noted) → Type 0
 NothingTold told = (k : ℕ) (t : Noted) → At told k (Some t) → ⊥
 
 -- This answer about the two numbers is remembered.
-pub record HasAnswer (told : List (Option Noted)) (first second : ℕ) (answer : Answer) : Type 0 where
+pub record HasAnswer (told : List (Option Noted)) (first second : ℕ)
+    (answer : Answer) : Type 0 where
   pub place : ℕ
   pub here : Noted
   pub is : At told place (Some here)
@@ -24,9 +25,12 @@ pub record HasAnswer (told : List (Option Noted)) (first second : ℕ) (answer :
 -- No answer has come but this one.
 abbrev pub HasNoted : ℕ → ℕ → Answer → List (Option Noted) → List (Option Noted) → Type 0
 HasNoted first second answer old now =
-    (k : ℕ) (t : Noted) → At now k (Some t) → At old k (Some t) ⊎ ((t.first ≡ first) × (t.second ≡ second) × (t.answer ≡ answer))
+    (k : ℕ) (t : Noted) → At now k (Some t)
+    → At old k (Some t) ⊎ ((t.first ≡ first) × (t.second ≡ second) × (t.answer ≡ answer))
 
 -- Each answer was remembered before: no two numbers have another one.
 abbrev pub TellsNothingNew : List (Option Noted) → List (Option Noted) → Type 0
 TellsNothingNew old now =
-    (k : ℕ) (t : Noted) → At now k (Some t) → (j : ℕ) × (was : Noted) × At old j (Some was) × (t.first ≡ was.first) × (t.second ≡ was.second) × (t.answer ≡ was.answer)
+    (k : ℕ) (t : Noted) → At now k (Some t)
+    → (j : ℕ) × (was : Noted) × At old j (Some was) × (t.first ≡ was.first)
+    × (t.second ≡ was.second) × (t.answer ≡ was.answer)

@@ -1,4 +1,5 @@
-//! Which graph covers which, as it is remembered: by prints of graphs, which tell most pairs apart at once, and by answers about pairs.
+//! Which graph covers which, as it is remembered: by prints of graphs, which tell most pairs apart
+//! at once, and by answers about pairs.
 
 ghost use Rattle.std.specs.Prelude.{◌≡◌, ◌<◌, ◌↔◌, ℕ, List, true, IsTrue, IfOk, IfSome, length};
 ghost use Rattle.auto_core.specs.Game.{Holds};
@@ -41,8 +42,10 @@ fn are_there(graphs: &GraphBlocks, g: u32, h: u32) -> bool
 fn covers(order: &Rel, graphs: &GraphBlocks, memo: &mut Memo, g: u32, h: u32) -> bool
     requires first { IsFormed order.now.size (block_at graphs.now.items g) }
     requires second { IsFormed order.now.size (block_at graphs.now.items h) }
-    requires told { AllTold (FitsCovering order.now.size order.now.pairs graphs.now.items) memo.old.told.items }
-    ensures told { AllTold (FitsCovering order.now.size order.now.pairs graphs.now.items) memo.new.told.items }
+    requires told { AllTold (FitsCovering order.now.size order.now.pairs graphs.now.items)
+        memo.old.told.items }
+    ensures told { AllTold (FitsCovering order.now.size order.now.pairs graphs.now.items)
+        memo.new.told.items }
     ensures covers { IsTrue result
         ↔ Covers (Holds order.now.pairs) (block_graph order.now.size (block_at graphs.now.items g)) (block_graph order.now.size (block_at graphs.now.items h)) }
 {
@@ -58,7 +61,9 @@ fn covers(order: &Rel, graphs: &GraphBlocks, memo: &mut Memo, g: u32, h: u32) ->
 
 /// Tells whether the arcs have the same ends, and the first is accepting where the second is.
 fn fits(x: &Arc, y: &Arc) -> bool
-    ensures { IsTrue result ↔ ((x.now.from ≡ y.now.from) × (x.now.to ≡ y.now.to) × (y.now.accepting ≡ true → x.now.accepting ≡ true)) }
+    ensures { IsTrue result
+        ↔ ((x.now.from ≡ y.now.from) × (x.now.to ≡ y.now.to)
+        × (y.now.accepting ≡ true → x.now.accepting ≡ true)) }
 {
     x.from == y.from && x.to == y.to && (x.accepting || !y.accepting)
 }
@@ -75,8 +80,10 @@ pub fn subsumes(
 ) -> bool
     requires first { IsFormed order.now.size (block_at graphs.now.items g) }
     requires second { IsFormed order.now.size (block_at graphs.now.items h) }
-    requires told { AllTold (FitsCovering order.now.size order.now.pairs graphs.now.items) memo.old.told.items }
-    ensures told { AllTold (FitsCovering order.now.size order.now.pairs graphs.now.items) memo.new.told.items }
+    requires told { AllTold (FitsCovering order.now.size order.now.pairs graphs.now.items)
+        memo.old.told.items }
+    ensures told { AllTold (FitsCovering order.now.size order.now.pairs graphs.now.items)
+        memo.new.told.items }
     ensures subsumes { IsTrue result
         ↔ Subsumes (Holds order.now.pairs) (with_graph x.now (block_graph order.now.size (block_at graphs.now.items g)))
         (with_graph y.now (block_graph order.now.size (block_at graphs.now.items h))) }
@@ -90,7 +97,9 @@ pub fn subsumes(
 impl Coverings {
     /// Nothing was told.
     pub fn new(alloc: Global) -> Result<Coverings, Memory>
-        ensures { IfOk result (λ c. (n : ℕ) (S : List (ℕ × ℕ)) (graphs : List (List ℕ)) → AreCoverings n S graphs c) }
+        ensures { IfOk
+            result (λ c.
+            (n : ℕ) (S : List (ℕ × ℕ)) (graphs : List (List ℕ)) → AreCoverings n S graphs c) }
     {
         Ok(Coverings {
             prints: Vec::new(alloc),
@@ -126,7 +135,8 @@ impl Coverings {
     /// The print of the graph, if it was taken.
     pub fn print_at(&self, order: &Rel, graphs: &GraphBlocks, h: u32) -> Option<Print>
         requires told { AreCoverings order.now.size order.now.pairs graphs.now.items self.now }
-        ensures { IfSome result (IsPrint order.now.size (Holds order.now.pairs) (block_at graphs.now.items h)) }
+        ensures { IfSome result
+            (IsPrint order.now.size (Holds order.now.pairs) (block_at graphs.now.items h)) }
     {
         if h as usize >= self.prints.len() {
             return None;

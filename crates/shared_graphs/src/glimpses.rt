@@ -1,4 +1,5 @@
-//! What is kept of graphs to tell whether two of them have a lasso: for a first look the first 64 states alone, and the states with a loop.
+//! What is kept of graphs to tell whether two of them have a lasso: for a first look the first 64
+//! states alone, and the states with a loop.
 
 ghost use Rattle.std.specs.Prelude.{◌≡◌, ◌↔◌, ℕ, List, [], ◌∷◌, true, IsTrue, IfOk, IfSome};
 ghost use Rattle.auto_core.specs.Automaton.{Automaton};
@@ -95,7 +96,8 @@ pub(crate) fn meet(glimpses: &[Glimpse], g: u32, h: u32) -> bool
     first.entered & second.looping != 0
 }
 
-/// Tells whether the graphs have a lasso from the initial state, if the states with a loop are marked in the second.
+/// Tells whether the graphs have a lasso from the initial state, if the states with a loop are
+/// marked in the second.
 pub(crate) fn told(
     second: &Auto,
     graphs: &GraphBlocks,

@@ -16,8 +16,10 @@ use std::alloc::Global;
 use std::marker::Model;
 use std::mem::swap;
 
-/// A pool, and in it the blocks of graphs by their numbers, and a fresh block, into which the next graph is written. Contracts see it as
-/// `Blocks`: the pool without these blocks, the words of each, and those of the fresh one, and how many blocks of the pool were free before.
+/// A pool, and in it the blocks of graphs by their numbers, and a fresh block, into which the next
+/// graph is written. Contracts see it as
+/// `Blocks`: the pool without these blocks, the words of each, and those of the fresh one, and how
+/// many blocks of the pool were free before.
 #[derive(Drop)]
 pub struct GraphBlocks {
     pool: Pool,
@@ -48,7 +50,10 @@ impl GraphBlocks {
         ensures rest { IfOk result (λ b. b.rest ≡ pool.old.blocks) }
         ensures free { IfOk result (λ b. b.free_before ≡ pool.old.free) }
         ensures none { IfOk result (λ b. b.items ≡ []) }
-        ensures left { IfOk result (λ _. (pool.new.words ≡ pool.old.words) × (pool.new.blocks ≡ map.empty) × (pool.new.free ≡ 0)) }
+        ensures left { IfOk
+            result (λ _.
+            (pool.new.words ≡ pool.old.words) × (pool.new.blocks ≡ map.empty)
+            × (pool.new.free ≡ 0)) }
         ensures refused { OnErr result (pool.new ≡ pool.old) }
     {
         let free_before = pool.free();
@@ -110,20 +115,25 @@ impl GraphBlocks {
         requires { self.old.words ≡ 2 * second.now.states * width_of second.now.states }
         ensures pool { SamePool self.old self.new }
         ensures items { self.new.items ≡ self.old.items }
-        ensures fresh { IsBlockOf second.now AsTheyAre (letter_graph second.now label) self.new.fresh }
+        ensures fresh { IsBlockOf second.now AsTheyAre (letter_graph second.now label)
+            self.new.fresh }
     {
         graph_rows::letter(second, label, self.pool.block_mut(self.fresh));
     }
 
-    /// Writes the graph with this number, extended by the letter, whose own block is given, into the fresh block.
+    /// Writes the graph with this number, extended by the letter, whose own block is given, into
+    /// the fresh block.
     pub(crate) fn write_extension(&mut self, second: &Auto, label: u32, letter: &[u64], from: u32)
         requires words { self.old.words ≡ 2 * second.now.states * width_of second.now.states }
-        requires letter { IsBlockOf second.now AsTheyAre (letter_graph second.now label) letter.now }
+        requires letter { IsBlockOf second.now AsTheyAre (letter_graph second.now label)
+            letter.now }
         requires within { from < length self.old.items }
         requires formed { IsFormed second.now.states (block_at self.old.items from) }
         ensures pool { SamePool self.old self.new }
         ensures items { self.new.items ≡ self.old.items }
-        ensures fresh { IsBlockOf second.now AsTheyAre (extended second.now (block_graph second.now.states (block_at self.old.items from)) label) self.new.fresh }
+        ensures fresh { IsBlockOf second.now AsTheyAre
+            (extended second.now (block_graph second.now.states (block_at self.old.items from))
+            label) self.new.fresh }
     {
         let (kept, fresh) = self.pool.pair(self.blocks[from as usize], self.fresh);
         graph_rows::extend_by(second, label, letter, kept, fresh);
@@ -136,7 +146,8 @@ impl GraphBlocks {
         ensures pool { SamePool self.old self.new }
         ensures items { self.new.items ≡ self.old.items }
         ensures formed { IsFormed order.now.size self.new.fresh }
-        ensures minimised { IsMinimised order.now.pairs (block_graph order.now.size self.new.fresh) (block_graph order.now.size self.old.fresh) }
+        ensures minimised { IsMinimised order.now.pairs (block_graph order.now.size self.new.fresh)
+            (block_graph order.now.size self.old.fresh) }
     {
         supergraph::minimise(order, self.pool.block_mut(self.fresh));
     }
@@ -171,7 +182,8 @@ impl GraphBlocks {
     pub fn copy(&mut self, number: u32) -> Result<(), Memory>
         requires { number < length self.old.items }
         ensures pool { SamePool self.old self.new }
-        ensures copied { OnOk result (self.new.items ≡ self.old.items ++ block_at self.old.items number ∷ []) }
+        ensures copied { OnOk result
+            (self.new.items ≡ self.old.items ++ block_at self.old.items number ∷ []) }
     {
         self.write_copy(number);
         self.keep()

@@ -28,7 +28,10 @@ pub struct GraphPairs {
 impl GraphPairs {
     /// Nothing was told of graphs of so many states.
     pub fn new(alloc: Global, states: u32) -> Result<GraphPairs, Memory>
-        ensures { IfOk result (λ t. (B : Automaton) (S : List (ℕ × ℕ)) (graphs : List (List ℕ)) → states ≡ B.states → AreGraphPairs B S graphs t) }
+        ensures { IfOk
+            result (λ t.
+            (B : Automaton) (S : List (ℕ × ℕ)) (graphs : List (List ℕ)) → states ≡ B.states
+            → AreGraphPairs B S graphs t) }
     {
         Ok(GraphPairs {
             covers: Coverings::new(alloc)?,
@@ -85,7 +88,8 @@ impl GraphPairs {
         Ok(())
     }
 
-    /// Takes the glimpse of the graph, if it is the first without one. The states with a loop are marked where the graph is to be turned round in.
+    /// Takes the glimpse of the graph, if it is the first without one. The states with a loop are
+    /// marked where the graph is to be turned round in.
     pub fn look(
         &mut self,
         alloc: Global,

@@ -1,4 +1,5 @@
-//! The different graphs of words, each with a number, and what letters lead to from them, remembered: many elements have one graph.
+//! The different graphs of words, each with a number, and what letters lead to from them,
+//! remembered: many elements have one graph.
 
 ghost use Rattle.std.specs.Prelude.{◌≡◌, ◌+◌, ◌*◌, ◌^◌, ◌<◌, ◌≤◌, [], length, IfOk, IfSome, OnErr};
 ghost use Rattle.std.specs.FinMap as map;
@@ -29,7 +30,8 @@ const STEPS: usize = 1024;
 
 const MOST_STEPS: usize = 65536;
 
-/// Under what the numbers of letters are remembered: of their own graphs, and of those that stand for them.
+/// Under what the numbers of letters are remembered: of their own graphs, and of those that stand
+/// for them.
 const OWN: u32 = 0;
 
 const KEPT: u32 = 1;
@@ -76,7 +78,8 @@ fn mixed_with(mixed: u64, row: &[u64]) -> u64 {
     all
 }
 
-/// The words of the block, mixed: of each four the first two, and the last two apart from these, and at last both.
+/// The words of the block, mixed: of each four the first two, and the last two apart from these,
+/// and at last both.
 fn mixed_of(block: &[u64]) -> u64 {
     let mut front = 0;
     let mut back = 1;
@@ -93,12 +96,18 @@ impl Graphs {
     /// No graphs, whose blocks are to be in this pool, which is taken.
     pub fn new(alloc: Global, pool: &mut Pool) -> Result<Graphs, Memory>
         requires room { map.len pool.old.blocks + 1 < 2 ^ 32 }
-        ensures stock { IfOk result (λ g. (B : Automaton) (keeping : Keeping) → pool.old.words ≡ 2 * B.states * width_of B.states → IsStock B keeping g) }
+        ensures stock { IfOk
+            result (λ g.
+            (B : Automaton) (keeping : Keeping) → pool.old.words ≡ 2 * B.states * width_of B.states
+            → IsStock B keeping g) }
         ensures words { IfOk result (λ g. g.graphs.words ≡ pool.old.words) }
         ensures rest { IfOk result (λ g. g.graphs.rest ≡ pool.old.blocks) }
         ensures free { IfOk result (λ g. g.graphs.free_before ≡ pool.old.free) }
         ensures none { IfOk result (λ g. g.graphs.items ≡ []) }
-        ensures left { IfOk result (λ _. (pool.new.words ≡ pool.old.words) × (pool.new.blocks ≡ map.empty) × (pool.new.free ≡ 0)) }
+        ensures left { IfOk
+            result (λ _.
+            (pool.new.words ≡ pool.old.words) × (pool.new.blocks ≡ map.empty)
+            × (pool.new.free ≡ 0)) }
         ensures refused { OnErr result (pool.new ≡ pool.old) }
     {
         let latest = vec![in alloc; u32::MAX; PLACES]?;
@@ -167,8 +176,8 @@ impl Graphs {
         Ok(number)
     }
 
-    /// The number of the graph whose block is the fresh one, which is added if it is not there. A block that is there already is left to
-    /// the next graph.
+    /// The number of the graph whose block is the fresh one, which is added if it is not there. A
+    /// block that is there already is left to the next graph.
     fn number_of_fresh(&mut self) -> Result<u32, Memory>
         ensures pool { SamePool self.old.graphs self.new.graphs }
         ensures number { IfOk result (HasNumber self.old.graphs.fresh self.old self.new) }
@@ -191,8 +200,8 @@ impl Graphs {
         self.number_of_fresh()
     }
 
-    /// Gives the graph in the fresh block its number, and remembers it as that of the letter: under `OWN` where the graph is the letter's own
-    /// one, under `KEPT` where it stands for that.
+    /// Gives the graph in the fresh block its number, and remembers it as that of the letter: under
+    /// `OWN` where the graph is the letter's own one, under `KEPT` where it stands for that.
     fn take_letter(&mut self, under: u32, label: u32) -> Result<u32, Memory>
         ensures pool { SamePool self.old.graphs self.new.graphs }
         ensures stock { IfOk result (λ _. (B : Automaton) (keeping : Keeping) → IsStock B keeping self.old
@@ -212,7 +221,8 @@ impl Graphs {
         ensures pool { SamePool self.old.graphs self.new.graphs }
         ensures stock { IfOk result (λ _. IsStock second.now AsTheyAre self.new) }
         ensures grown { IfOk result (λ _. HasGrown self.old.graphs.items self.new.graphs.items) }
-        ensures is { IfOk result (IsGraphOf second.now AsTheyAre (letter_graph second.now label) self.new.graphs.items) }
+        ensures is { IfOk result
+            (IsGraphOf second.now AsTheyAre (letter_graph second.now label) self.new.graphs.items) }
     {
         if let Some(Answer::Number(number)) = self.letters.find(OWN, label) {
             return Ok(number);
@@ -221,12 +231,14 @@ impl Graphs {
         self.take_letter(OWN, label)
     }
 
-    /// Remembers the number of the graph that stands for that of the letter as that of its own graph, if it is that graph.
+    /// Remembers the number of the graph that stands for that of the letter as that of its own
+    /// graph, if it is that graph.
     fn note_own(&mut self, second: &Auto, label: u32, number: u32)
         requires within { number < length self.old.graphs.items }
         requires stock { (keeping : Keeping) × IsStock second.now keeping self.old }
         ensures graphs { self.new.graphs ≡ self.old.graphs }
-        ensures stock { (keeping : Keeping) → IsStock second.now keeping self.old → IsStock second.now keeping self.new }
+        ensures stock { (keeping : Keeping) → IsStock second.now keeping self.old
+            → IsStock second.now keeping self.new }
     {
         graph_rows::letter(second, label, &mut self.letter_block);
         if are_equal(self.graphs.block(number as usize), &self.letter_block) {
@@ -245,9 +257,12 @@ impl Graphs {
         requires size { order.now.size ≡ second.now.states }
         requires stock { IsStock second.now (MinimisedBy order.now.pairs) self.old }
         ensures pool { SamePool self.old.graphs self.new.graphs }
-        ensures stock { IfOk result (λ _. IsStock second.now (MinimisedBy order.now.pairs) self.new) }
+        ensures stock { IfOk
+            result (λ _. IsStock second.now (MinimisedBy order.now.pairs) self.new) }
         ensures grown { IfOk result (λ _. HasGrown self.old.graphs.items self.new.graphs.items) }
-        ensures is { IfOk result (IsGraphOf second.now (MinimisedBy order.now.pairs) (letter_graph second.now label) self.new.graphs.items) }
+        ensures is { IfOk result
+            (IsGraphOf second.now (MinimisedBy order.now.pairs) (letter_graph second.now label)
+            self.new.graphs.items) }
     {
         if let Some(Answer::Number(number)) = self.letters.find(KEPT, label) {
             return Ok(number);
@@ -265,7 +280,8 @@ impl Graphs {
         ensures graphs { self.new.graphs ≡ self.old.graphs }
         ensures letters { self.new.letters ≡ self.old.letters }
         ensures steps { self.new.steps ≡ self.old.steps }
-        ensures letter_block { IsBlockOf second.now AsTheyAre (letter_graph second.now label) self.new.letter_block.items }
+        ensures letter_block { IsBlockOf second.now AsTheyAre (letter_graph second.now label)
+            self.new.letter_block.items }
     {
         if let Some(Answer::Number(number)) = self.letters.find(OWN, label) {
             self.letter_block
@@ -284,7 +300,10 @@ impl Graphs {
         ensures letters { self.new.letters ≡ self.old.letters }
         ensures steps { self.new.steps ≡ self.old.steps }
         ensures letter_block { length self.new.letter_block.items ≡ self.old.graphs.words }
-        ensures fresh { IsBlockOf second.now AsTheyAre (extended second.now (block_graph second.now.states (block_at self.old.graphs.items from)) label) self.new.graphs.fresh }
+        ensures fresh { IsBlockOf second.now AsTheyAre
+            (extended second.now
+            (block_graph second.now.states (block_at self.old.graphs.items from)) label)
+            self.new.graphs.fresh }
     {
         self.write_letter_block(second, label);
         self.graphs
@@ -296,7 +315,8 @@ impl Graphs {
         ensures graphs { self.new.graphs ≡ self.old.graphs }
         ensures letters { self.new.letters ≡ self.old.letters }
         ensures letter_block { self.new.letter_block ≡ self.old.letter_block }
-        ensures steps { IfOk result (λ _. TellsNothingNew self.old.steps.told.items self.new.steps.told.items) }
+        ensures steps { IfOk
+            result (λ _. TellsNothingNew self.old.steps.told.items self.new.steps.told.items) }
     {
         let places = self.steps.told.len();
         if places < MOST_STEPS && self.graphs.len() > places / 2 {
@@ -305,7 +325,8 @@ impl Graphs {
         Ok(())
     }
 
-    /// Gives the graph in the fresh block, which stands for the graph `from` extended by the letter, its number, and remembers it.
+    /// Gives the graph in the fresh block, which stands for the graph `from` extended by the
+    /// letter, its number, and remembers it.
     fn take_step(&mut self, alloc: Global, from: u32, label: u32) -> Result<u32, Memory>
         ensures pool { SamePool self.old.graphs self.new.graphs }
         ensures stock { IfOk result (λ _. (B : Automaton) (keeping : Keeping) → IsStock B keeping self.old → IsFormed B.states (block_at self.old.graphs.items from)
@@ -333,7 +354,11 @@ impl Graphs {
         ensures pool { SamePool self.old.graphs self.new.graphs }
         ensures stock { IfOk result (λ _. IsStock second.now AsTheyAre self.new) }
         ensures grown { IfOk result (λ _. HasGrown self.old.graphs.items self.new.graphs.items) }
-        ensures is { IfOk result (IsGraphOf second.now AsTheyAre (extended second.now (block_graph second.now.states (block_at self.old.graphs.items from)) label) self.new.graphs.items) }
+        ensures is { IfOk result
+            (IsGraphOf second.now AsTheyAre
+            (extended second.now
+            (block_graph second.now.states (block_at self.old.graphs.items from)) label)
+            self.new.graphs.items) }
     {
         if let Some(Answer::Number(number)) = self.steps.find(from, label) {
             return Ok(number);
@@ -356,9 +381,14 @@ impl Graphs {
         requires stock { IsStock second.now (MinimisedBy order.now.pairs) self.old }
         requires formed { IsFormed second.now.states (block_at self.old.graphs.items from) }
         ensures pool { SamePool self.old.graphs self.new.graphs }
-        ensures stock { IfOk result (λ _. IsStock second.now (MinimisedBy order.now.pairs) self.new) }
+        ensures stock { IfOk
+            result (λ _. IsStock second.now (MinimisedBy order.now.pairs) self.new) }
         ensures grown { IfOk result (λ _. HasGrown self.old.graphs.items self.new.graphs.items) }
-        ensures is { IfOk result (IsGraphOf second.now (MinimisedBy order.now.pairs) (extended second.now (block_graph second.now.states (block_at self.old.graphs.items from)) label) self.new.graphs.items) }
+        ensures is { IfOk result
+            (IsGraphOf second.now (MinimisedBy order.now.pairs)
+            (extended second.now
+            (block_graph second.now.states (block_at self.old.graphs.items from)) label)
+            self.new.graphs.items) }
     {
         if let Some(Answer::Number(number)) = self.steps.find(from, label) {
             return Ok(number);

@@ -1,4 +1,5 @@
-//! Graphs of words, each kept once with a number, with what letters lead to from them and what was told of two, remembered.
+//! Graphs of words, each kept once with a number, with what letters lead to from them and what was
+//! told of two, remembered.
 #![tactic(auto)]
 
 mod coverings;

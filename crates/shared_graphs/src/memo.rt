@@ -1,5 +1,6 @@
-//! Answers that are remembered, in a table of fixed size: a later one may take the place of an earlier one. No clause says that an answer is
-//! found again, since what is forgotten costs time alone.
+//! Answers that are remembered, in a table of fixed size: a later one may take the place of an
+//! earlier one. No clause says that an answer is found again, since what is forgotten costs time
+//! alone.
 
 ghost use Rattle.std.specs.Prelude.{IfOk, IfSome};
 ghost use Rattle.shared_graphs.specs.Memo.{NothingTold, HasAnswer, TellsNothingNew, HasNoted};

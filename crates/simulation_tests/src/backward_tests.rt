@@ -7,7 +7,8 @@ use std::alloc::Global;
 use std::test::Fail;
 use test_inputs::{held, step};
 
-/// States 3 and 4 are reached by the same words, but 4 remembers with its last letter what 3 remembers with the one before.
+/// States 3 and 4 are reached by the same words, but 4 remembers with its last letter what 3
+/// remembers with the one before.
 fn rememberer(alloc: Global) -> Result<List<Trans>, Memory> {
     let mut moves = List::new(alloc);
     for (source, label, target) in [(0, 0, 1), (0, 1, 2), (1, 2, 3), (2, 2, 3)] {

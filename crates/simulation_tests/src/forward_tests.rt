@@ -22,7 +22,8 @@ fn chooser(alloc: Global) -> Result<List<Trans>, Memory> {
     Ok(moves)
 }
 
-/// The number of pairs of two different states that the relation holds both ways, each counted twice.
+/// The number of pairs of two different states that the relation holds both ways, each counted
+/// twice.
 fn equal_in_row(rel: &Rel, p: u32) -> u64 {
     let mut count = 0u64;
     for q in 0..rel.size() {

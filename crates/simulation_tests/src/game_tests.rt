@@ -1,4 +1,5 @@
-//! The greatest relation of the game: that the calls succeed, that both ways to it give the same, and what known automata give.
+//! The greatest relation of the game: that the calls succeed, that both ways to it give the same,
+//! and what known automata give.
 
 use crate::relation_tests::pairs_in;
 use auto_core::{Auto, List, Memory, Trans};
@@ -29,8 +30,8 @@ fn same(rel: &Rel, other: &Rel) -> bool {
     rel.size() == other.size()
 }
 
-/// The number of pairs of the greatest forward relation; None where both ways do not give the same, forward or backward, or the lookahead is
-/// none.
+/// The number of pairs of the greatest forward relation; None where both ways do not give the same,
+/// forward or backward, or the lookahead is none.
 fn pairs(alloc: Global, automaton: &Auto, look: u32) -> Result<Option<u64>, Memory> {
     if 1 <= look && look <= 6 {
         let rel = greatest(alloc, &Forward, automaton, look)?;
@@ -75,7 +76,8 @@ fn looking_ahead_relates_more(rt: HostRuntime) -> Result<(), Fail> {
         step(6, 2, 3),
     ];
     let automaton = Auto::build(alloc, 7, 3, 0, &moves, &[])?;
-    // two dead ends are below all states, and 5 and 6 below 1; each of the rest is below itself, and 4 below 0
+    // two dead ends are below all states, and 5 and 6 below 1; each of the rest is below itself,
+    // and 4 below 0
     assert_eq!(rt; pairs(alloc, &automaton, 1)?, Some(22));
     // 0 is below 4 too
     assert_eq!(rt; pairs(alloc, &automaton, 2)?, Some(23));
@@ -83,7 +85,8 @@ fn looking_ahead_relates_more(rt: HostRuntime) -> Result<(), Fail> {
     Ok(())
 }
 
-/// A line of `n` states by one letter, after each state but the last a loop by another letter if `looped` says so.
+/// A line of `n` states by one letter, after each state but the last a loop by another letter if
+/// `looped` says so.
 fn line(alloc: Global, n: u32, looped: bool) -> Result<List<Trans>, Memory> {
     let mut moves = List::new(alloc);
     for q in 1..n {

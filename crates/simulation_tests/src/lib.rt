@@ -1,4 +1,5 @@
-//! Tests of relations and of the games that they come from: rounds, and the greatest forward, backward and delayed relations.
+//! Tests of relations and of the games that they come from: rounds, and the greatest forward,
+//! backward and delayed relations.
 #![tactic(auto)]
 
 #[cfg(test)]

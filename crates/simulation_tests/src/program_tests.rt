@@ -24,7 +24,8 @@ fn are_same(one: &Delayed, other: &Delayed) -> bool {
     true
 }
 
-/// How many triples the greatest relation with so many announced letters has; None where the two programs differ.
+/// How many triples the greatest relation with so many announced letters has; None where the two
+/// programs differ.
 pub(crate) fn found(alloc: Global, automaton: &Auto, asked: u32) -> Result<Option<usize>, Memory>
     requires few { automaton.now.states ≤ 65535 }
     requires from { 1 ≤ asked }
@@ -40,7 +41,8 @@ pub(crate) fn found(alloc: Global, automaton: &Auto, asked: u32) -> Result<Optio
     })
 }
 
-/// Whether they find the same on the automaton for each number of letters up to three, and so many triples.
+/// Whether they find the same on the automaton for each number of letters up to three, and so many
+/// triples.
 fn find_alike(alloc: Global, small: &Small<'_>, triples: Option<usize>) -> Result<bool, Fail> {
     let automaton = built(alloc, small)?;
     if automaton.states() > 100 {

@@ -1,4 +1,5 @@
-//! Relations: that the calls succeed, and what known ones give, also where rows take two and three words.
+//! Relations: that the calls succeed, and what known ones give, also where rows take two and three
+//! words.
 
 use auto_core::Memory;
 use bit_rel::Rel;
@@ -37,7 +38,8 @@ pub(crate) fn pairs_in(rel: &Rel) -> u64 {
     count
 }
 
-/// How many pairs a chain of so many states has, a copy of it, its closure, and the strict part of that.
+/// How many pairs a chain of so many states has, a copy of it, its closure, and the strict part of
+/// that.
 fn counts_of_chain(alloc: Global, n: u32) -> Result<(u64, u64, u64, u64), Memory> {
     let mut rel = chain(alloc, n)?;
     let links = pairs_in(&rel);
@@ -61,8 +63,8 @@ fn chains_close(rt: HostRuntime) -> Result<(), Fail> {
     Ok(())
 }
 
-/// Of the closure of a chain of so many states: whether 0 is related to 1, 1 to 0, both to one another, 1 to itself; and both to one another
-/// once 1 is related to 0.
+/// Of the closure of a chain of so many states: whether 0 is related to 1, 1 to 0, both to one
+/// another, 1 to itself; and both to one another once 1 is related to 0.
 fn ways_in_chain(alloc: Global, n: u32) -> Result<Option<[bool; 5]>, Memory> {
     let mut rel = chain(alloc, n)?;
     rel.close();
@@ -86,8 +88,9 @@ fn a_way_back_joins_a_chain(rt: HostRuntime) -> Result<(), Fail> {
     Ok(())
 }
 
-/// How many pairs the closure of a ring of so many states has, its strict part, and what is left without one pair; and the first words of the
-/// last row before the closure and after that pair was cleared.
+/// How many pairs the closure of a ring of so many states has, its strict part, and what is left
+/// without one pair; and the first words of the last row before the closure and after that pair was
+/// cleared.
 fn ring_counts(
     alloc: Global,
     n: u32,
@@ -128,7 +131,8 @@ fn related(alloc: Global, n: u32, pairs: &[(u32, u32)]) -> Result<Rel, Memory> {
     Ok(rel)
 }
 
-/// How many pairs there are, how many in the closure, how many in the strict part of that, and whether 0 and 1 are related both ways.
+/// How many pairs there are, how many in the closure, how many in the strict part of that, and
+/// whether 0 and 1 are related both ways.
 fn order_of(
     alloc: Global,
     n: u32,

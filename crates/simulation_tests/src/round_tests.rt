@@ -7,7 +7,8 @@ use std::alloc::Global;
 use std::test::Fail;
 use test_inputs::{Small, built, step};
 
-/// The round from `p` and `q` with these pairs as the relation; None where a number is out of range.
+/// The round from `p` and `q` with these pairs as the relation; None where a number is out of
+/// range.
 fn round(
     alloc: Global,
     small: &Small<'_>,
@@ -70,7 +71,8 @@ fn acceptance_is_compared(rt: HostRuntime) -> Result<(), Fail> {
     Ok(())
 }
 
-/// 0 leads by the first letter to a dead end, 2 has a loop by the second, and 3 leads to 2 by the first.
+/// 0 leads by the first letter to a dead end, 2 has a loop by the second, and 3 leads to 2 by the
+/// first.
 const DEAD_END: Small<'static> = Small {
     states: 4,
     labels: 2,

@@ -15,7 +15,9 @@ AreStatesBelow B map n = (q : ℕ) → q < n → class_of map q < B.states
 
 -- The image of the transition t of A is a move of B.
 abbrev pub HasImage : Automaton → Automaton → List ℕ → ℕ → Type 0
-HasImage A B map t = Moves B (class_of map (trans_at A t).source) (trans_at A t).label (class_of map (trans_at A t).target)
+HasImage A B map t =
+    Moves B (class_of map (trans_at A t).source) (trans_at A t).label
+    (class_of map (trans_at A t).target)
 
 -- The images of the transitions of A below n are moves of B.
 abbrev pub HaveImagesBelow : Automaton → Automaton → List ℕ → ℕ → Type 0
@@ -25,11 +27,13 @@ HaveImagesBelow A B map n = (t : ℕ) → t < n → HasImage A B map t
 abbrev pub AcceptBelow : Automaton → Automaton → List ℕ → ℕ → Type 0
 AcceptBelow A B map n = (q : ℕ) → q < n → IsAccepting A q → IsAccepting B (class_of map q)
 
--- The fault is the first: first come the images that are no states, then the initial state, then the moves, then the
--- accepting states.
+-- The fault is the first: first come the images that are no states, then the initial state, then
+-- the moves, then the accepting states.
 abbrev pub IsFirstFault : Automaton → Automaton → List ℕ → MapFault → Type 0
-IsFirstFault A B map (Number q) = (q < A.states) × AreStatesBelow B map q × (B.states ≤ class_of map q)
-IsFirstFault A B map Initial = AreStatesBelow B map A.states × (B.initial ≡ class_of map A.initial → ⊥)
+IsFirstFault A B map (Number q) =
+    (q < A.states) × AreStatesBelow B map q × (B.states ≤ class_of map q)
+IsFirstFault A B map Initial =
+    AreStatesBelow B map A.states × (B.initial ≡ class_of map A.initial → ⊥)
 IsFirstFault A B map (Move t) =
     AreStatesBelow B map A.states
     × (B.initial ≡ class_of map A.initial)

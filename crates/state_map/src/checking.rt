@@ -25,7 +25,10 @@ pub enum MapFault {
 /// The first state whose image is no state.
 fn first_no_state(first: &Auto, small: &Auto, map: &[u32]) -> Option<u32>
     requires { length map.now ≡ first.now.states }
-    ensures some { IfSome result (λ q. (q < first.now.states) × AreStatesBelow small.now map.now q × (small.now.states ≤ class_of map.now q)) }
+    ensures some { IfSome
+        result (λ q.
+        (q < first.now.states) × AreStatesBelow small.now map.now q
+        × (small.now.states ≤ class_of map.now q)) }
     ensures none { IfNone result (AreStatesBelow small.now map.now first.now.states) }
 {
     for state in 0..first.states() {
@@ -58,8 +61,12 @@ fn has_image(first: &Auto, small: &Auto, map: &[u32], number: u32) -> bool
 fn first_no_move(first: &Auto, small: &Auto, map: &[u32]) -> Option<u32>
     requires len { length map.now ≡ first.now.states }
     requires states { AreStatesBelow small.now map.now first.now.states }
-    ensures some { IfSome result (λ t. (t < length first.now.transitions) × HaveImagesBelow first.now small.now map.now t × (HasImage first.now small.now map.now t → ⊥)) }
-    ensures none { IfNone result (HaveImagesBelow first.now small.now map.now (length first.now.transitions)) }
+    ensures some { IfSome
+        result (λ t.
+        (t < length first.now.transitions) × HaveImagesBelow first.now small.now map.now t
+        × (HasImage first.now small.now map.now t → ⊥)) }
+    ensures none { IfNone result
+        (HaveImagesBelow first.now small.now map.now (length first.now.transitions)) }
 {
     for number in 0..first.transitions().len() as u32 {
         if !has_image(first, small, map, number) {
@@ -73,7 +80,10 @@ fn first_no_move(first: &Auto, small: &Auto, map: &[u32]) -> Option<u32>
 fn first_not_accepting(first: &Auto, small: &Auto, map: &[u32]) -> Option<u32>
     requires len { length map.now ≡ first.now.states }
     requires states { AreStatesBelow small.now map.now first.now.states }
-    ensures some { IfSome result (λ q. (q < first.now.states) × AcceptBelow first.now small.now map.now q × IsAccepting first.now q × (IsAccepting small.now (class_of map.now q) → ⊥)) }
+    ensures some { IfSome
+        result (λ q.
+        (q < first.now.states) × AcceptBelow first.now small.now map.now q × IsAccepting first.now q
+        × (IsAccepting small.now (class_of map.now q) → ⊥)) }
     ensures none { IfNone result (AcceptBelow first.now small.now map.now first.now.states) }
 {
     for state in 0..first.states() {
@@ -87,8 +97,8 @@ fn first_not_accepting(first: &Auto, small: &Auto, map: &[u32]) -> Option<u32>
     None
 }
 
-/// The first fault of the map of the first automaton's states to those of the small one; None where it carries the first
-/// over.
+/// The first fault of the map of the first automaton's states to those of the small one; None where
+/// it carries the first over.
 pub fn check(first: &Auto, small: &Auto, map: &[u32]) -> Option<MapFault>
     requires { length map.now ≡ first.now.states }
     ensures some { IfSome result (IsFirstFault first.now small.now map.now) }

@@ -6,12 +6,13 @@ ghost use Rattle.state_map.specs.Faults.{HasTarget};
 
 use auto_core::{Auto, Span, Trans};
 
-/// Tells whether one of the transitions in the span, whose targets rise, has this target. It halves the span until one is
-/// found.
+/// Tells whether one of the transitions in the span, whose targets rise, has this target. It halves
+/// the span until one is found.
 fn has_target(automaton: &Auto, span: Span, target: u32) -> bool
     requires range { span.begin ≤ span.end }
     requires within { span.end ≤ length automaton.now.transitions }
-    requires rising { (i j : ℕ) → span.begin ≤ i → i < j → j < span.end → (trans_at automaton.now i).target < (trans_at automaton.now j).target }
+    requires rising { (i j : ℕ) → span.begin ≤ i → i < j → j < span.end
+        → (trans_at automaton.now i).target < (trans_at automaton.now j).target }
     ensures { IsTrue result ↔ HasTarget automaton.now span.begin span.end target }
 {
     let transitions = automaton.transitions();

@@ -6,7 +6,8 @@ use Rattle.auto_core.specs.Game.{Close}
 abbrev pub at : List ℕ → ℕ → ℕ
 at xs i = slice_index_or xs i 0
 
--- The arcs of node v lead to the targets from `starts v` up to `starts (v + 1)`, nodes too. There are fewer than 2^32
+-- The arcs of node v lead to the targets from `starts v` up to `starts (v + 1)`, nodes too. There
+-- are fewer than 2^32
 -- - 1 nodes.
 pub record IsGraph (starts targets : List ℕ) (nodes : ℕ) : Type 0 where
   pub size : length starts ≡ nodes + 1
@@ -23,9 +24,10 @@ IsArcOf starts v k = (at starts v ≤ k) × (k < at starts (v + 1))
 abbrev pub HasArc : List ℕ → List ℕ → ℕ → ℕ → Type 0
 HasArc starts targets v w = (k : ℕ) × IsArcOf starts v k × (at targets k ≡ w)
 
--- The numbers are those of components: an arc leads to no greater number, and one between equal numbers has a way
--- back.
+-- The numbers are those of components: an arc leads to no greater number, and one between equal
+-- numbers has a way back.
 pub record AreComponents (starts targets : List ℕ) (nodes : ℕ) (numbers : List ℕ) : Type 0 where
   pub size : length numbers ≡ nodes
   pub fall : (v w : ℕ) → v < nodes → HasArc starts targets v w → at numbers w ≤ at numbers v
-  pub joined : (v w : ℕ) → v < nodes → HasArc starts targets v w → at numbers w ≡ at numbers v → Close (HasArc starts targets) w v
+  pub joined : (v w : ℕ) → v < nodes → HasArc starts targets v w → at numbers w ≡ at numbers v
+      → Close (HasArc starts targets) w v

@@ -48,7 +48,8 @@ pub record Stepped (starts targets : List ℕ) (nodes : ℕ) (s t : State) : Typ
   pub seen : KeepsSeen s t
 
 -- The search from the root is at its end.
-pub record SearchedFrom (starts targets : List ℕ) (nodes : ℕ) (s t : State) (root : ℕ) : Type 0 where
+pub record SearchedFrom (starts targets : List ℕ) (nodes : ℕ) (s t : State)
+    (root : ℕ) : Type 0 where
   pub way : IsUnderWay starts targets nodes t
   pub ended : length t.bounds ≡ 0
   pub seen : KeepsSeen s t

@@ -7,8 +7,8 @@ use crate::search::Search;
 use auto_core::Memory;
 use std::alloc::Global;
 
-/// The number of each node's component. The arcs out of node v lead to the targets from `starts[v]` up to `starts[v +
-/// 1]`.
+/// The number of each node's component. The arcs out of node v lead to the targets from `starts[v]`
+/// up to `starts[v + 1]`.
 pub fn components_of(
     alloc: Global,
     nodes: u32,

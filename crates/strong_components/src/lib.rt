@@ -1,4 +1,5 @@
-//! The strongly connected components of a graph, numbered so that arcs lead to components of no greater number.
+//! The strongly connected components of a graph, numbered so that arcs lead to components of no
+//! greater number.
 #![tactic(auto)]
 
 mod finding;

@@ -1,5 +1,5 @@
-//! The search for components: a chain of groups of nodes, each of them strongly connected, each with a way to the
-//! next.
+//! The search for components: a chain of groups of nodes, each of them strongly connected, each
+//! with a way to the next.
 
 ghost use Rattle.std.specs.Prelude.{◌≡◌, ◌+◌, ◌-◌, ◌*◌, ◌^◌, ◌<◌, ◌≤◌, ◌↔◌, ◌++◌, ◌∷◌, [], ℕ, List, true, false, length, take, slice_set, replicate, IsTrue, IfOk, IfSome, IfNone, OnOk, OnErr, vec_len};
 ghost use Rattle.strong_components.specs.Graph.{at, IsGraph};
@@ -56,7 +56,8 @@ fn bounds_up_to(bounds: &[u32], place: u32) -> usize
     count
 }
 
-/// The number of the items, which is less than `NONE`. Refused where there are more, as no graph has.
+/// The number of the items, which is less than `NONE`. Refused where there are more, as no graph
+/// has.
 fn next_number(count: usize) -> Result<u32, Memory>
     ensures { IfOk result (λ number. (number ≡ count) × (number < none)) }
 {
@@ -76,7 +77,9 @@ fn last_of(numbers: &[u32]) -> u32
 
 /// The last place, if it is not before the start.
 fn last_from(path: &[u32], start: u32) -> Option<u32>
-    ensures some { IfSome result (λ place. (0 < length path.now) × (at path.now (length path.now - 1) ≡ place) × (start ≤ place)) }
+    ensures some { IfSome
+        result (λ place.
+        (0 < length path.now) × (at path.now (length path.now - 1) ≡ place) × (start ≤ place)) }
     ensures none { IfNone result (0 < length path.now → at path.now (length path.now - 1) < start) }
 {
     if path.is_empty() {
@@ -131,7 +134,8 @@ impl Search {
     pub fn new(alloc: Global, nodes: u32, starts: &[usize]) -> Result<Search, Memory>
         requires size { length starts.now ≡ nodes + 1 }
         requires rising { (v : ℕ) → v < nodes → at starts.now v ≤ at starts.now (v + 1) }
-        ensures way { IfOk result (λ s. (targets : List ℕ) → IsUnderWay starts.now targets nodes (state_of s)) }
+        ensures way { IfOk
+            result (λ s. (targets : List ℕ) → IsUnderWay starts.now targets nodes (state_of s)) }
         ensures ended { IfOk result (λ s. length s.bounds.items ≡ 0) }
     {
         Ok(Search {
@@ -166,9 +170,13 @@ impl Search {
         requires { node < length self.old.places.items }
         ensures room { OnOk result (length self.old.stack.items < none) }
         ensures stack { OnOk result (self.new.stack.items ≡ self.old.stack.items ++ node ∷ []) }
-        ensures bounds { OnOk result (self.new.bounds.items ≡ self.old.bounds.items ++ length self.old.stack.items ∷ []) }
-        ensures path { OnOk result (self.new.path.items ≡ self.old.path.items ++ length self.old.stack.items ∷ []) }
-        ensures places { OnOk result (self.new.places.items ≡ slice_set self.old.places.items node (length self.old.stack.items)) }
+        ensures bounds { OnOk result
+            (self.new.bounds.items ≡ self.old.bounds.items ++ length self.old.stack.items ∷ []) }
+        ensures path { OnOk result
+            (self.new.path.items ≡ self.old.path.items ++ length self.old.stack.items ∷ []) }
+        ensures places { OnOk result
+            (self.new.places.items
+            ≡ slice_set self.old.places.items node (length self.old.stack.items)) }
         ensures rest { self.new.rest.items ≡ self.old.rest.items }
         ensures numbers { self.new.numbers.items ≡ self.old.numbers.items }
         ensures count { self.new.count ≡ self.old.count }
@@ -215,13 +223,16 @@ impl Search {
         Ok(())
     }
 
-    /// Takes the next arc of the node at the place, which is the last on the path and in the last group, or takes the
-    /// node off the path where none is left.
+    /// Takes the next arc of the node at the place, which is the last on the path and in the last
+    /// group, or takes the node off the path where none is left.
     fn explore(&mut self, starts: &[usize], targets: &[u32], place: u32) -> Result<(), Memory>
         requires graph { IsGraph starts.now targets.now (length self.old.rest.items) }
-        requires way { IsUnderWay starts.now targets.now (length self.old.rest.items) (state_of self.old) }
+        requires way { IsUnderWay starts.now targets.now (length self.old.rest.items)
+            (state_of self.old) }
         requires last { IsLastOnPath (state_of self.old) place }
-        ensures { OnOk result (Stepped starts.now targets.now (length self.old.rest.items) (state_of self.old) (state_of self.new)) }
+        ensures { OnOk result
+            (Stepped starts.now targets.now (length self.old.rest.items) (state_of self.old)
+            (state_of self.new)) }
     {
         let node = self.stack.as_slice()[place as usize];
         let left = self.rest.as_slice()[node as usize];
@@ -238,10 +249,17 @@ impl Search {
     /// Makes the last group a component; none of its nodes has an arc left.
     fn close(&mut self) -> Result<(), Memory>
         requires some { 0 < length self.old.bounds.items }
-        requires start { at self.old.bounds.items (length self.old.bounds.items - 1) ≤ length self.old.stack.items }
-        requires nodes { (x : ℕ) → x < length self.old.stack.items → at self.old.stack.items x < length self.old.numbers.items }
-        ensures bounds { OnOk result (self.new.bounds.items ≡ take (length self.old.bounds.items - 1) self.old.bounds.items) }
-        ensures stack { OnOk result (self.new.stack.items ≡ take (at self.old.bounds.items (length self.old.bounds.items - 1)) self.old.stack.items) }
+        requires start { at self.old.bounds.items (length self.old.bounds.items - 1)
+            ≤ length self.old.stack.items }
+        requires nodes { (x : ℕ) → x < length self.old.stack.items
+            → at self.old.stack.items x < length self.old.numbers.items }
+        ensures bounds { OnOk result
+            (self.new.bounds.items
+            ≡ take (length self.old.bounds.items - 1) self.old.bounds.items) }
+        ensures stack { OnOk result
+            (self.new.stack.items
+            ≡ take (at self.old.bounds.items (length self.old.bounds.items - 1))
+            self.old.stack.items) }
         ensures numbers { OnOk result (AreMarked self.old.stack.items (at self.old.bounds.items (length self.old.bounds.items - 1)) self.old.count
             self.old.numbers.items self.new.numbers.items) }
         ensures few { OnOk result (self.old.count + 1 < none) }
@@ -274,9 +292,12 @@ impl Search {
     /// Goes on by an arc out of the last group, or makes it a component where it has none left.
     fn step(&mut self, starts: &[usize], targets: &[u32]) -> Result<(), Memory>
         requires graph { IsGraph starts.now targets.now (length self.old.rest.items) }
-        requires way { IsUnderWay starts.now targets.now (length self.old.rest.items) (state_of self.old) }
+        requires way { IsUnderWay starts.now targets.now (length self.old.rest.items)
+            (state_of self.old) }
         requires some { 0 < length self.old.bounds.items }
-        ensures { OnOk result (Stepped starts.now targets.now (length self.old.rest.items) (state_of self.old) (state_of self.new)) }
+        ensures { OnOk result
+            (Stepped starts.now targets.now (length self.old.rest.items) (state_of self.old)
+            (state_of self.new)) }
     {
         match self.last_place() {
             Some(place) => {
@@ -298,10 +319,13 @@ impl Search {
         root: u32,
     ) -> Result<(), Memory>
         requires graph { IsGraph starts.now targets.now (length self.old.rest.items) }
-        requires way { IsUnderWay starts.now targets.now (length self.old.rest.items) (state_of self.old) }
+        requires way { IsUnderWay starts.now targets.now (length self.old.rest.items)
+            (state_of self.old) }
         requires ended { length self.old.bounds.items ≡ 0 }
         requires root { root < length self.old.rest.items }
-        ensures { OnOk result (SearchedFrom starts.now targets.now (length self.old.rest.items) (state_of self.old) (state_of self.new) root) }
+        ensures { OnOk result
+            (SearchedFrom starts.now targets.now (length self.old.rest.items) (state_of self.old)
+            (state_of self.new) root) }
     {
         if self.is_seen(root) {
             return Ok(());

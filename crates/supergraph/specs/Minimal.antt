@@ -13,7 +13,8 @@ pub record IsPartOf (part whole : Graph) : Type 0 where
   pub joined : (s t : ℕ) → part.joined s t → whole.joined s t
   pub past : (s t : ℕ) → part.joined s t → part.past s t ↔ whole.past s t
 
--- The arc of g from s to t is dominated: another arc from s, of at least its value, leads to a state that S relates t to.
+-- The arc of g from s to t is dominated: another arc from s, of at least its value, leads to a
+-- state that S relates t to.
 pub record IsDominated (S : ℕ → ℕ → Type 0) (g : Graph) (s t : ℕ) : Type 0 where
   pub other : ℕ
   pub differs : ¬ (other ≡ t)
@@ -34,4 +35,5 @@ pub record IsLessened (S : ℕ → ℕ → Type 0) (old new : Graph) : Type 0 wh
 -- The new table is the old one without this cell.
 pub record IsWithout (width row target : ℕ) (old new : List ℕ) : Type 0 where
   pub here : cell_of new width row target ≡ false
-  pub others : (r s : ℕ) → s < width * 64 → ¬ ((r ≡ row) × (s ≡ target)) → cell_of new width r s ≡ cell_of old width r s
+  pub others : (r s : ℕ) → s < width * 64 → ¬ ((r ≡ row) × (s ≡ target))
+      → cell_of new width r s ≡ cell_of old width r s

@@ -1,4 +1,5 @@
--- What an arc stands for: beside a word, the arc that a run on the word has; beside a graph of another automaton, a supergraph.
+-- What an arc stands for: beside a word, the arc that a run on the word has; beside a graph of
+-- another automaton, a supergraph.
 use Rattle.std.specs.Prelude.{List, ℕ}
 use Rattle.auto_core.specs.Graph.{Graph, Supergraph, WordArc}
 use Rattle.supergraph.specs.declared.arcs.Arc.{Arc}

@@ -24,7 +24,8 @@ pub struct Arc {
 /// The arc of the transition with this number.
 pub fn base(automaton: &Auto, t: u32) -> Arc
     requires { t < length automaton.now.transitions }
-    ensures arc { with_word result ((trans_at automaton.now t).label ∷ []) ≡ base_arc automaton.now (trans_at automaton.now t) }
+    ensures arc { with_word result ((trans_at automaton.now t).label ∷ [])
+        ≡ base_arc automaton.now (trans_at automaton.now t) }
     ensures real { IsReal automaton.now (with_word result ((trans_at automaton.now t).label ∷ [])) }
 {
     let step = automaton.transitions()[t as usize];
@@ -39,8 +40,11 @@ pub fn base(automaton: &Auto, t: u32) -> Arc
 pub fn extend(automaton: &Auto, arc: &Arc, t: u32) -> Arc
     requires number { t < length automaton.now.transitions }
     requires leaves { (trans_at automaton.now t).source ≡ arc.now.to }
-    ensures arc { (w : List ℕ) → with_word result (w ++ (trans_at automaton.now t).label ∷ []) ≡ extended_arc automaton.now (with_word arc.now w) (trans_at automaton.now t) }
-    ensures real { (w : List ℕ) → IsReal automaton.now (with_word arc.now w) → IsReal automaton.now (with_word result (w ++ (trans_at automaton.now t).label ∷ [])) }
+    ensures arc { (w : List ℕ)
+        → with_word result (w ++ (trans_at automaton.now t).label ∷ [])
+        ≡ extended_arc automaton.now (with_word arc.now w) (trans_at automaton.now t) }
+    ensures real { (w : List ℕ) → IsReal automaton.now (with_word arc.now w)
+        → IsReal automaton.now (with_word result (w ++ (trans_at automaton.now t).label ∷ [])) }
 {
     let step = automaton.transitions()[t as usize];
     Arc {
@@ -50,7 +54,8 @@ pub fn extend(automaton: &Auto, arc: &Arc, t: u32) -> Arc
     }
 }
 
-/// Tells whether `x` with the graph `gx` subsumes `y` with the graph `gy`: the ends are the same, `x` is accepting where `y` is, and
+/// Tells whether `x` with the graph `gx` subsumes `y` with the graph `gy`: the ends are the same,
+/// `x` is accepting where `y` is, and
 /// `gx` covers `gy`.
 pub fn subsumes(order: &Rel, x: &Arc, gx: &[u64], y: &Arc, gy: &[u64]) -> bool
     requires first { IsFormed order.now.size gx.now }

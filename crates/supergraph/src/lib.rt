@@ -1,5 +1,6 @@
-//! Arcs of one automaton, which with graphs of another are supergraphs: the first, their extensions, when one subsumes another, graphs
-//! without needless arcs, and the words of arcs given by their origins.
+//! Arcs of one automaton, which with graphs of another are supergraphs: the first, their
+//! extensions, when one subsumes another, graphs without needless arcs, and the words of arcs given
+//! by their origins.
 #![tactic(auto)]
 
 mod arcs;

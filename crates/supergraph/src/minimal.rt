@@ -48,7 +48,8 @@ fn put_back(
     }
 }
 
-/// Takes the arc to the target out of the row, if it is there, and puts it back where no other arc makes it needless.
+/// Takes the arc to the target out of the row, if it is there, and puts it back where no other arc
+/// makes it needless.
 fn lessen_arc(
     order: &Rel,
     width: usize,
@@ -138,7 +139,8 @@ fn lessen_targets(
     }
 }
 
-/// Takes the needless arcs to the states of the word out of all rows. Only the states that arcs lead to are looked at.
+/// Takes the needless arcs to the states of the word out of all rows. Only the states that arcs
+/// lead to are looked at.
 fn lessen_word(order: &Rel, width: usize, word: usize, joined: &mut [u64], past: &mut [u64])
     requires order { IsPreorder order.now.size order.now.pairs }
     requires few { width < 2 ^ 32 }
@@ -169,20 +171,23 @@ fn lessen(order: &Rel, width: usize, joined: &mut [u64], past: &mut [u64])
     ensures past { IsTable past.new order.now.size width }
     ensures lessened { IsLessened (Holds order.now.pairs) (graph_of_tables joined.old past.old order.now.size width)
         (graph_of_tables joined.new past.new order.now.size width) }
-    ensures minimal { IsMinimal (Holds order.now.pairs) (graph_of_tables joined.new past.new order.now.size width) }
+    ensures minimal { IsMinimal (Holds order.now.pairs)
+        (graph_of_tables joined.new past.new order.now.size width) }
 {
     for word in 0..width {
         lessen_word(order, width, word, joined, past);
     }
 }
 
-/// Takes each arc out of the graph that another arc of its row makes needless: one of at least its value, to a state that the order
-/// relates its target to. Of arcs to states that are related both ways one stays.
+/// Takes each arc out of the graph that another arc of its row makes needless: one of at least its
+/// value, to a state that the order relates its target to. Of arcs to states that are related both
+/// ways one stays.
 pub fn minimise(order: &Rel, g: &mut [u64])
     requires order { IsPreorder order.now.size order.now.pairs }
     requires formed { IsFormed order.now.size g.old }
     ensures formed { IsFormed order.now.size g.new }
-    ensures cover { CoverEachOther (Holds order.now.pairs) (block_graph order.now.size g.old) (block_graph order.now.size g.new) }
+    ensures cover { CoverEachOther (Holds order.now.pairs) (block_graph order.now.size g.old)
+        (block_graph order.now.size g.new) }
     ensures part { IsPartOf (block_graph order.now.size g.new) (block_graph order.now.size g.old) }
     ensures minimal { IsMinimal (Holds order.now.pairs) (block_graph order.now.size g.new) }
 {

@@ -24,7 +24,8 @@ fn letters_back(
 ) -> Result<Vec<u32>, Memory>
     requires is_there { element < length origins.now }
     requires names { NameWhatIsThere automaton.now origins.now }
-    ensures { IfOk result (λ letters. reverse letters.items ≡ word_at automaton.now origins.now element) }
+    ensures { IfOk
+        result (λ letters. reverse letters.items ≡ word_at automaton.now origins.now element) }
 {
     let mut letters = Vec::new(alloc);
     let mut at = element;
@@ -49,8 +50,8 @@ fn word_from(alloc: Global, letters: &[u32]) -> Result<Word, Memory>
     Ok(word)
 }
 
-/// The word of the element: the letters of its transition and of those of the elements that it goes on from, from the first on.
-/// Each origin names transitions of the automaton and lesser elements.
+/// The word of the element: the letters of its transition and of those of the elements that it goes
+/// on from, from the first on. Each origin names transitions of the automaton and lesser elements.
 pub fn word_of(
     alloc: Global,
     automaton: &Auto,

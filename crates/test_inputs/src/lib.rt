@@ -1,4 +1,5 @@
-//! What several crates of tests are tried on: files in memory, texts, and small automata; and how a relation is looked at.
+//! What several crates of tests are tried on: files in memory, texts, and small automata; and how a
+//! relation is looked at.
 #![tactic(auto)]
 
 use auto_core::{Auto, List, Memory, Trans};
@@ -11,7 +12,8 @@ use std::test::Fail;
 pub const ONE_YES: &str =
     "rabit-cert 1 buchi yes\nsizes 1 1 1\nlog1 0\nlog2 0\nrel 1\nrow 0 0\nelements 1\nlive base 0\ncover 0\nstep 0 0\nend\n";
 
-/// A ring of so many states by one letter, where each state has a loop by another; only the first state is accepting.
+/// A ring of so many states by one letter, where each state has a loop by another; only the first
+/// state is accepting.
 pub fn looped_ring(alloc: Global, states: u32) -> Result<String, Memory> {
     let mut text = String::new(alloc);
     text.push_str("[0]\n")?;

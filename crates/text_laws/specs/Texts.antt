@@ -14,19 +14,21 @@ use Rattle.reduce_loop.specs.Settled.{IsSettled}
 abbrev pub with_text : List (List ℕ) → Trans → ℕ × List ℕ × ℕ
 with_text labels t = (t.source, slice_index_or labels t.label [], t.target)
 
--- The automata have the same states, the same initial state and accepting states, and place by place the same transitions, their
--- labels compared by their texts.
-pub record AreSameByTexts (A : Automaton) (labels : List (List ℕ)) (B : Automaton) (others : List (List ℕ)) : Type 0 where
+-- The automata have the same states, the same initial state and accepting states, and place by
+-- place the same transitions, their labels compared by their texts.
+pub record AreSameByTexts (A : Automaton) (labels : List (List ℕ)) (B : Automaton)
+    (others : List (List ℕ)) : Type 0 where
   pub states : A.states ≡ B.states
   pub initial : A.initial ≡ B.initial
   pub accepting : A.accepting ≡ B.accepting
   pub transitions : map (with_text labels) A.transitions ≡ map (with_text others) B.transitions
 
--- Settled automata with the same text are the same by their labels' texts: at most they differ in the numbers of the labels and in
--- labels that no transition has.
+-- Settled automata with the same text are the same by their labels' texts: at most they differ in
+-- the numbers of the labels and in labels that no transition has.
 abbrev pub SettledTextTells : Type 0
 SettledTextTells =
-    (A B : Automaton) (labels others : List (List ℕ)) (mode other : Mode) (sight farther : Foresight)
+    (A B : Automaton) (labels others : List (List ℕ)) (mode other : Mode)
+    (sight farther : Foresight)
     → IsWritable A labels
     → IsWritable B others
     → IsSettled A mode sight
@@ -52,7 +54,8 @@ SameByTextsIsWritten =
     → AreSameByTexts A labels B others
     → written A labels ≡ written B others
 
--- The transitions of the second are then those of the first, each label with the number that its text has among the second's labels.
+-- The transitions of the second are then those of the first, each label with the number that its
+-- text has among the second's labels.
 abbrev pub SameByTextsRenumbers : Type 0
 SameByTextsRenumbers =
     (A B : Automaton) (labels others : List (List ℕ))

@@ -2,7 +2,8 @@
 
 ghost use Rattle.text_laws.specs.Texts.{SameByTextsIsSame, SameByTextsIsWritten, SameByTextsRenumbers, SettledTextTells, TrimmedTextTells};
 
-/// Settled automata with the same text differ at most in the numbers of the labels and in labels that no transition has.
+/// Settled automata with the same text differ at most in the numbers of the labels and in labels
+/// that no transition has.
 pub fn a_settled_text_tells_the_automaton()
     ensures { SettledTextTells }
 {}

@@ -1,4 +1,5 @@
-//! What the written text of a settled automaton tells of it: each law is the contract of a function that does nothing.
+//! What the written text of a settled automaton tells of it: each law is the contract of a function
+//! that does nothing.
 #![tactic(auto)]
 
 mod laws;

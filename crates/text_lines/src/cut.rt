@@ -13,8 +13,12 @@ fn place_of_newline(text: &[u8]) -> Option<usize>
 
 /// The first line of a text, without its LF, if it ends, and what stands after the LF.
 pub fn split_line(text: &[u8]) -> Option<(&[u8], &[u8])>
-    ensures cut { MatchOption result (IsUnfinished text.now) (λ parts. IsLineCut text.now parts.0.now parts.1.now) }
-    ensures first { IfSome result (λ parts. HasNewline text.now × (parts.0.now ≡ before_first is_newline text.now) × (parts.1.now ≡ after_first is_newline text.now)) }
+    ensures cut { MatchOption result
+        (IsUnfinished text.now) (λ parts. IsLineCut text.now parts.0.now parts.1.now) }
+    ensures first { IfSome
+        result (λ parts.
+        HasNewline text.now × (parts.0.now ≡ before_first is_newline text.now)
+        × (parts.1.now ≡ after_first is_newline text.now)) }
     ensures shorter { IfSome result (λ parts. length parts.1.now < length text.now) }
 {
     match place_of_newline(text) {

@@ -14,11 +14,14 @@ IsSquareSize h = (h ≡ 32) ⊎ (h ≡ 16) ⊎ (h ≡ 8) ⊎ (h ≡ 4) ⊎ (h �
 abbrev pub IsMask : ℕ → ℕ → Type 0
 IsMask h mask = (b : ℕ) → b < 64 → bit_at mask b ≡ 1 - b / h % 2
 
--- Of each four squares that make up a larger one, the two off its diagonal are exchanged: what row a has then.
+-- Of each four squares that make up a larger one, the two off its diagonal are exchanged: what row
+-- a has then.
 pub record IsExchanged (old new : List ℕ) (h a : ℕ) : Type 0 where
   pub same : (b : ℕ) → b < 64 → b / h % 2 ≡ a / h % 2 → bit_in new a b ≡ bit_in old a b
-  pub above : a / h % 2 ≡ 0 → (b : ℕ) → b < 64 → b / h % 2 ≡ 1 → bit_in new a b ≡ bit_in old (a + h) (b - h)
-  pub below : a / h % 2 ≡ 1 → (b : ℕ) → b < 64 → b / h % 2 ≡ 0 → bit_in new a b ≡ bit_in old (a - h) (b + h)
+  pub above : a / h % 2 ≡ 0 → (b : ℕ) → b < 64 → b / h % 2 ≡ 1
+      → bit_in new a b ≡ bit_in old (a + h) (b - h)
+  pub below : a / h % 2 ≡ 1 → (b : ℕ) → b < 64 → b / h % 2 ≡ 0
+      → bit_in new a b ≡ bit_in old (a - h) (b + h)
 
 -- Rows and columns are exchanged.
 abbrev pub IsTransposed : List ℕ → List ℕ → Type 0

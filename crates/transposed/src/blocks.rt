@@ -3,7 +3,8 @@
 ghost use Rattle.std.specs.Prelude.{◌≡◌, ◌+◌, ◌/◌, ◌%◌, ◌^◌, ◌<◌, ℕ, length, slice_index};
 ghost use Rattle.transposed.specs.Blocks.{IsSquareSize, IsMask, IsExchanged, IsTransposed};
 
-/// Exchanges squares of row `k` with those of the row `h` rows later, where `mask` has the columns of each first square.
+/// Exchanges squares of row `k` with those of the row `h` rows later, where `mask` has the columns
+/// of each first square.
 fn exchange(block: &mut [u64], k: usize, h: usize, mask: u64)
     requires len { length block.old ≡ 64 }
     requires size { IsSquareSize h }
@@ -12,7 +13,8 @@ fn exchange(block: &mut [u64], k: usize, h: usize, mask: u64)
     requires place { k < 64 }
     ensures first { IsExchanged block.old block.new h k }
     ensures second { IsExchanged block.old block.new h (k + h) }
-    ensures others { (a : ℕ) → ¬ (a ≡ k) → ¬ (a ≡ k + h) → slice_index block.new a ≡ slice_index block.old a }
+    ensures others { (a : ℕ) → ¬ (a ≡ k) → ¬ (a ≡ k + h)
+        → slice_index block.new a ≡ slice_index block.old a }
 {
     let upper = block[k];
     let lower = block[k + h];

@@ -34,7 +34,8 @@ fn read_block(
     requires few { first < 2 ^ 40 }
     requires block { length block.old ≡ 64 }
     ensures len { length block.new ≡ 64 }
-    ensures inside { (k : ℕ) → k < 64 → first + k < rows → slice_index block.new k ≡ slice_index table.now ((first + k) * width + word) }
+    ensures inside { (k : ℕ) → k < 64 → first + k < rows
+        → slice_index block.new k ≡ slice_index table.now ((first + k) * width + word) }
     ensures past { (k : ℕ) → k < 64 → rows ≤ first + k → slice_index block.new k ≡ 0 }
 {
     for k in 0..64 {
@@ -42,7 +43,8 @@ fn read_block(
     }
 }
 
-/// Writes the block as the words at this place of the rows from `first` on, as far as there are rows.
+/// Writes the block as the words at this place of the rows from `first` on, as far as there are
+/// rows.
 fn write_block(
     block: &[u64],
     turned: &mut [u64],
@@ -55,8 +57,10 @@ fn write_block(
     requires turned { length turned.old ≡ columns * span }
     requires word { word < span }
     requires few { first < 2 ^ 40 }
-    ensures here { (c : ℕ) → first ≤ c → c < first + 64 → c < columns → slice_index turned.new (c * span + word) ≡ slice_index block.now (c - first) }
-    ensures others { (c r : ℕ) → r < span → ((r ≡ word) × (first ≤ c) × (c < first + 64) → ⊥) → slice_index turned.new (c * span + r) ≡ slice_index turned.old (c * span + r) }
+    ensures here { (c : ℕ) → first ≤ c → c < first + 64 → c < columns
+        → slice_index turned.new (c * span + word) ≡ slice_index block.now (c - first) }
+    ensures others { (c r : ℕ) → r < span → ((r ≡ word) × (first ≤ c) × (c < first + 64) → ⊥)
+        → slice_index turned.new (c * span + r) ≡ slice_index turned.old (c * span + r) }
 {
     for c in first..columns.min(first + 64) {
         turned[c * span + word] = block[c - first];
@@ -83,8 +87,10 @@ fn turn_block(
     requires few_columns { width < 2 ^ 32 }
     requires block { length block.old ≡ 64 }
     ensures len { length block.new ≡ 64 }
-    ensures here { (c r : ℕ) → c < columns → r / 64 ≡ i → c / 64 ≡ j → HasCell turned.new span c r ↔ ((r < rows) × HasCell table.now width r c) }
-    ensures others { (c r : ℕ) → r < span * 64 → ((r / 64 ≡ i) × (c / 64 ≡ j) → ⊥) → cell_of turned.new span c r ≡ cell_of turned.old span c r }
+    ensures here { (c r : ℕ) → c < columns → r / 64 ≡ i → c / 64 ≡ j
+        → HasCell turned.new span c r ↔ ((r < rows) × HasCell table.now width r c) }
+    ensures others { (c r : ℕ) → r < span * 64 → ((r / 64 ≡ i) × (c / 64 ≡ j) → ⊥)
+        → cell_of turned.new span c r ≡ cell_of turned.old span c r }
 {
     read_block(table, width, rows, i * 64, j, block);
     transpose_block(block);
@@ -110,16 +116,19 @@ fn turn_rows(
     requires near { columns ≤ width * 64 }
     requires block { length block.old ≡ 64 }
     ensures len { length block.new ≡ 64 }
-    ensures here { (c r : ℕ) → c < columns → r / 64 ≡ i → HasCell turned.new span c r ↔ ((r < rows) × HasCell table.now width r c) }
-    ensures others { (c r : ℕ) → r < span * 64 → ¬ (r / 64 ≡ i) → cell_of turned.new span c r ≡ cell_of turned.old span c r }
+    ensures here { (c r : ℕ) → c < columns → r / 64 ≡ i
+        → HasCell turned.new span c r ↔ ((r < rows) × HasCell table.now width r c) }
+    ensures others { (c r : ℕ) → r < span * 64 → ¬ (r / 64 ≡ i)
+        → cell_of turned.new span c r ≡ cell_of turned.old span c r }
 {
     for j in 0..width {
         turn_block(table, width, rows, turned, span, columns, i, j, block);
     }
 }
 
-/// Writes into `turned` the first columns of the table as rows, as many as `columns` says. Rows of the table have `width` words and
-/// those of `turned` have `span`; rows of the table past the first `span * 64` are left out.
+/// Writes into `turned` the first columns of the table as rows, as many as `columns` says. Rows of
+/// the table have `width` words and those of `turned` have `span`; rows of the table past the first
+/// `span * 64` are left out.
 pub fn transpose(
     table: &[u64],
     width: usize,
@@ -133,7 +142,8 @@ pub fn transpose(
     requires few_rows { span < 2 ^ 32 }
     requires few_columns { width < 2 ^ 32 }
     requires near { columns ≤ width * 64 }
-    ensures { (c r : ℕ) → c < columns → r < span * 64 → HasCell turned.new span c r ↔ ((r < rows) × HasCell table.now width r c) }
+    ensures { (c r : ℕ) → c < columns → r < span * 64
+        → HasCell turned.new span c r ↔ ((r < rows) × HasCell table.now width r c) }
 {
     let mut block = [0; 64];
     for i in 0..span {

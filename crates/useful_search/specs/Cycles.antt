@@ -14,8 +14,8 @@ pub record AreTargets (A : Automaton) (targets : List ℕ) : Type 0 where
   pub size : length targets ≡ length A.transitions
   pub each : (k : ℕ) → k < length A.transitions → at targets k ≡ (trans_at A k).target
 
--- Each state has the number of its component: a move leads to no greater number, and from where one leads to an equal
--- number the state that it leaves is reached again.
+-- Each state has the number of its component: a move leads to no greater number, and from where one
+-- leads to an equal number the state that it leaves is reached again.
 pub record AreComponentNumbers (A : Automaton) (numbers : List ℕ) : Type 0 where
   pub size : length numbers ≡ A.states
   pub fall : (p a q : ℕ) → Moves A p a q → at numbers q ≤ at numbers p

@@ -15,14 +15,17 @@ MovesAlong A Backward p q = (a : ℕ) × BackwardMoves A p a q
 
 -- From one of the states any number of moves lead to q.
 abbrev pub IsReachedFrom : Automaton → Direction → List ℕ → ℕ → Type 0
-IsReachedFrom A direction states q = (p : ℕ) × Contains states p × Close (MovesAlong A direction) p q
+IsReachedFrom A direction states q =
+    (p : ℕ) × Contains states p × Close (MovesAlong A direction) p q
 
 -- The list has just the members of the set, each once.
 pub record ListsMembers (g : Gathered) : Type 0 where
   pub below : (i : ℕ) → i < length g.list.items → at g.list.items i < g.set.states
   pub sound : (i : ℕ) → i < length g.list.items → Contains g.set.members (at g.list.items i)
-  pub full : (q : ℕ) → Contains g.set.members q → (i : ℕ) × (i < length g.list.items) × (at g.list.items i ≡ q)
-  pub different : (i j : ℕ) → i < j → j < length g.list.items → at g.list.items i ≡ at g.list.items j → ⊥
+  pub full : (q : ℕ) → Contains g.set.members q
+      → (i : ℕ) × (i < length g.list.items) × (at g.list.items i ≡ q)
+  pub different : (i j : ℕ) → i < j → j < length g.list.items
+      → at g.list.items i ≡ at g.list.items j → ⊥
 
 -- Just the states of P have been added.
 pub record HasGained (P : ℕ → Type 0) (old new : Gathered) : Type 0 where

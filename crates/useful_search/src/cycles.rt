@@ -32,7 +32,8 @@ fn targets_of(alloc: Global, automaton: &Auto) -> Result<Vec<u32>, Memory>
     Ok(targets)
 }
 
-/// The number of each state's component. Refused where there are 2^32 - 1 states, more than a graph has nodes.
+/// The number of each state's component. Refused where there are 2^32 - 1 states, more than a graph
+/// has nodes.
 pub(crate) fn component_numbers(alloc: Global, automaton: &Auto) -> Result<Vec<u32>, Memory>
     ensures { IfOk result (λ numbers. AreComponentNumbers automaton.now numbers.items) }
 {

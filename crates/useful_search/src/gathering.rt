@@ -1,4 +1,5 @@
-//! States that are gathered by a search: the set of them, and the list in the order in which they came.
+//! States that are gathered by a search: the set of them, and the list in the order in which they
+//! came.
 
 ghost use Rattle.std.specs.Prelude.{◌≡◌, ◌<◌, IfOk, OnOk};
 ghost use Rattle.useful_search.specs.Gathering.{MovesAlong, IsReachedFrom, ListsMembers, HasGained, HoldsJust};
@@ -46,7 +47,8 @@ impl Gathered {
         requires listed { ListsMembers self.old }
         requires states { self.old.set.states ≡ automaton.now.states }
         requires state { state < automaton.now.states }
-        ensures { OnOk result (HasGained (MovesAlong automaton.now Direction.Forward state) self.old self.new) }
+        ensures { OnOk result
+            (HasGained (MovesAlong automaton.now Direction.Forward state) self.old self.new) }
     {
         let span = automaton.outgoing(state);
         for t in span.begin..span.end {
@@ -60,7 +62,8 @@ impl Gathered {
         requires listed { ListsMembers self.old }
         requires states { self.old.set.states ≡ automaton.now.states }
         requires state { state < automaton.now.states }
-        ensures { OnOk result (HasGained (MovesAlong automaton.now Direction.Backward state) self.old self.new) }
+        ensures { OnOk result
+            (HasGained (MovesAlong automaton.now Direction.Backward state) self.old self.new) }
     {
         let numbers = automaton.predecessors(state);
         for k in 0..numbers.len() {
@@ -74,7 +77,8 @@ impl Gathered {
         requires listed { ListsMembers self.old }
         requires states { self.old.set.states ≡ automaton.now.states }
         requires state { state < automaton.now.states }
-        ensures { OnOk result (HasGained (MovesAlong automaton.now direction state) self.old self.new) }
+        ensures { OnOk result
+            (HasGained (MovesAlong automaton.now direction state) self.old self.new) }
     {
         match direction {
             Direction::Forward => self.add_targets(automaton, state)?,
@@ -87,7 +91,9 @@ impl Gathered {
     pub fn close(&mut self, automaton: &Auto, direction: Direction) -> Result<(), Memory>
         requires listed { ListsMembers self.old }
         requires states { self.old.set.states ≡ automaton.now.states }
-        ensures { OnOk result (HasGained (IsReachedFrom automaton.now direction self.old.set.members) self.old self.new) }
+        ensures { OnOk result
+            (HasGained (IsReachedFrom automaton.now direction self.old.set.members) self.old
+            self.new) }
     {
         let mut at = 0;
         while at < self.list.len() {

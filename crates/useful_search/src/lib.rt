@@ -14,10 +14,11 @@
 //!                       ^ at                             what leads to those before `at` is there
 //! ```
 //!
-//! Each transition is looked at once for the graph and once for its components, once on the way from the initial state,
-//! once on the way back from the goals, and once more if its source accepts; a few numbers are kept for each state and
-//! each transition. Tables of states by states, in which a cycle could be looked for from each goal in turn, would need
-//! 8 GiB for the 262,144 states that a model checker's automaton may have.
+//! Each transition is looked at once for the graph and once for its components, once on the way
+//! from the initial state, once on the way back from the goals, and once more if its source
+//! accepts; a few numbers are kept for each state and each transition. Tables of states by states,
+//! in which a cycle could be looked for from each goal in turn, would need 8 GiB for the 262,144
+//! states that a model checker's automaton may have.
 #![tactic(auto)]
 
 mod cycles;

@@ -74,7 +74,8 @@ fn before_goals(alloc: Global, automaton: &Auto, mode: Mode) -> Result<Gathered,
 
 /// The states that are reached from the initial state.
 fn reached(alloc: Global, automaton: &Auto) -> Result<Gathered, Memory>
-    ensures { IfOk result (HoldsJust automaton.now.states (Reaches automaton.now automaton.now.initial)) }
+    ensures { IfOk result
+        (HoldsJust automaton.now.states (Reaches automaton.now automaton.now.initial)) }
 {
     let mut gathered = Gathered::new(alloc, automaton.states())?;
     gathered.add(automaton.initial())?;
@@ -96,7 +97,10 @@ fn in_both(alloc: Global, states: u32, one: &StateSet, other: &StateSet) -> Resu
     requires one { one.now.states ≡ states }
     requires other { other.now.states ≡ states }
     ensures states { IfOk result (λ s. s.states ≡ states) }
-    ensures members { IfOk result (λ s. (q : ℕ) → Contains s.members q ↔ ((q < states) × Contains one.now.members q × Contains other.now.members q)) }
+    ensures members { IfOk
+        result (λ s.
+        (q : ℕ) → Contains s.members q
+        ↔ ((q < states) × Contains one.now.members q × Contains other.now.members q)) }
 {
     let mut set = StateSet::new(alloc, states)?;
     for state in 0..states {
@@ -107,8 +111,8 @@ fn in_both(alloc: Global, states: u32, one: &StateSet, other: &StateSet) -> Resu
     Ok(set)
 }
 
-/// The useful states: those that are reached from the initial state and reach an accepting state, in Büchi mode one that lies on
-/// a cycle.
+/// The useful states: those that are reached from the initial state and reach an accepting state,
+/// in Büchi mode one that lies on a cycle.
 pub fn useful(alloc: Global, automaton: &Auto, mode: Mode) -> Result<StateSet, Memory>
     ensures states { IfOk result (λ s. s.states ≡ automaton.now.states) }
     ensures members { IfOk result (λ s. AreUseful automaton.now mode s.members) }

@@ -23,7 +23,9 @@ kept_transitions A kept = map (renumbered A kept) (filter (joins kept) A.transit
 
 -- The kept accepting states, under the new numbers.
 abbrev pub kept_accepting : Automaton → List ℕ → List ℕ
-kept_accepting A kept = map (new_number A kept) (filter (λ q. has kept q && is_accepting A q) (range_with_len 0 A.states))
+kept_accepting A kept =
+    map (new_number A kept)
+    (filter (λ q. has kept q && is_accepting A q) (range_with_len 0 A.states))
 
 -- The list has the new number of each state, and behind them the number of states that stay.
 pub record AreNumbers (A : Automaton) (kept numbers : List ℕ) : Type 0 where

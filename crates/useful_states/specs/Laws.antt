@@ -7,11 +7,14 @@ use Rattle.auto_core.specs.declared.parts.Mode.{Mode}
 
 -- What keeps some states of A accepts no more than A.
 abbrev pub KeptAcceptsNoMore : Type 0
-KeptAcceptsNoMore = (A B : Automaton) (kept : List ℕ) (mode : Mode) → IsKeptPart A kept B → Includes B A mode
+KeptAcceptsNoMore =
+    (A B : Automaton) (kept : List ℕ) (mode : Mode) → IsKeptPart A kept B → Includes B A mode
 
 -- What keeps all useful states of A, and maybe others, accepts the same.
 abbrev pub KeptAcceptsTheSame : Type 0
-KeptAcceptsTheSame = (A B : Automaton) (kept : List ℕ) (mode : Mode) → ((q : ℕ) → IsUseful A mode q → Contains kept q) → IsKeptPart A kept B → Same A B mode
+KeptAcceptsTheSame =
+    (A B : Automaton) (kept : List ℕ) (mode : Mode)
+    → ((q : ℕ) → IsUseful A mode q → Contains kept q) → IsKeptPart A kept B → Same A B mode
 
 -- An automaton that is trimmed accepts the same.
 abbrev pub TrimmedAcceptsTheSame : Type 0

@@ -104,8 +104,8 @@ fn accepting_kept(
     Ok(made)
 }
 
-/// The automaton of the kept states and the initial one, the transitions with both ends kept, and the kept accepting states. New
-/// numbers follow the old ones' order.
+/// The automaton of the kept states and the initial one, the transitions with both ends kept, and
+/// the kept accepting states. New numbers follow the old ones' order.
 pub fn keep(alloc: Global, automaton: &Auto, kept: &StateSet) -> Result<Auto, Memory>
     requires { kept.now.states ≡ automaton.now.states }
     ensures { IfOk result (IsKeptPart automaton.now kept.now.members) }
@@ -123,8 +123,8 @@ pub fn keep(alloc: Global, automaton: &Auto, kept: &StateSet) -> Result<Auto, Me
     )
 }
 
-/// The automaton of the useful states and the initial one, which stays even where it is useless: the transitions between useful
-/// states, and the useful accepting states.
+/// The automaton of the useful states and the initial one, which stays even where it is useless:
+/// the transitions between useful states, and the useful accepting states.
 pub fn trim(alloc: Global, automaton: &Auto, mode: Mode) -> Result<Auto, Memory>
     ensures { IfOk result (IsTrimmed automaton.now mode) }
 {

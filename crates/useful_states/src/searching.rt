@@ -9,7 +9,8 @@ ghost use Rattle.useful_states.specs.Search.{Steps, HoldsArcs, Marks, MarksGoals
 use auto_core::{Auto, Memory, Mode, StateSet, reach, rows};
 use std::alloc::Global;
 
-/// Writes the steps of the automaton into the first table, and the same turned round into the second.
+/// Writes the steps of the automaton into the first table, and the same turned round into the
+/// second.
 fn write_steps(automaton: &Auto, width: usize, ahead: &mut [u64], back: &mut [u64])
     requires room { automaton.now.states ≤ width * 64 }
     requires ahead_len { length ahead.old ≡ automaton.now.states * width }
@@ -61,7 +62,8 @@ fn is_goal(
     }
 }
 
-/// Tells whether the state is a goal that is not marked. `turn` and `done` are room for one row each.
+/// Tells whether the state is a goal that is not marked. `turn` and `done` are room for one row
+/// each.
 fn is_new_goal(
     automaton: &Auto,
     mode: Mode,
@@ -87,8 +89,8 @@ fn is_new_goal(
     is_goal(automaton, mode, ahead, width, state, turn, done)
 }
 
-/// Marks in Büchi mode what reaches a marked state, so that no goal among it is searched for. In finite mode a goal is seen without a
-/// search.
+/// Marks in Büchi mode what reaches a marked state, so that no goal among it is searched for. In
+/// finite mode a goal is seen without a search.
 fn spread(
     automaton: &Auto,
     mode: Mode,
@@ -102,7 +104,8 @@ fn spread(
     requires marks_len { length marks.old ≡ width }
     requires done_len { length done.old ≡ width }
     requires below { MarksBelow marks.old automaton.now.states }
-    ensures { (k : ℕ) → MarksGoals automaton.now mode k marks.old → MarksGoals automaton.now mode k marks.new }
+    ensures { (k : ℕ) → MarksGoals automaton.now mode k marks.old
+        → MarksGoals automaton.now mode k marks.new }
 {
     match mode {
         Mode::Finite => {}
@@ -138,8 +141,8 @@ fn mark_goals(
     }
 }
 
-/// Marks in one row what the initial state reaches, and in the other what reaches a goal. The other slices are room: two tables,
-/// and two rows.
+/// Marks in one row what the initial state reaches, and in the other what reaches a goal. The other
+/// slices are room: two tables, and two rows.
 fn mark(
     automaton: &Auto,
     mode: Mode,
@@ -160,7 +163,8 @@ fn mark(
     requires turn_len { length turn.old ≡ width }
     requires done_len { length done.old ≡ width }
     ensures reached { Marks reached.new (Reaches automaton.now automaton.now.initial) }
-    ensures goals { Marks goals.new (λ q. (q < automaton.now.states) × ReachesGoal automaton.now mode q) }
+    ensures goals { Marks
+        goals.new (λ q. (q < automaton.now.states) × ReachesGoal automaton.now mode q) }
 {
     write_steps(automaton, width, ahead, back);
     mark_goals(automaton, mode, ahead, back, width, goals, turn, done);
@@ -188,7 +192,9 @@ fn marked_by_both(
     requires row { states ≤ length row.now * 64 }
     requires other { states ≤ length other.now * 64 }
     ensures states { IfOk result (λ s. s.states ≡ states) }
-    ensures members { IfOk result (λ s. (q : ℕ) → Contains s.members q ↔ ((q < states) × HasBit row.now q × HasBit other.now q)) }
+    ensures members { IfOk
+        result (λ s.
+        (q : ℕ) → Contains s.members q ↔ ((q < states) × HasBit row.now q × HasBit other.now q)) }
 {
     let mut set = StateSet::new(alloc, states)?;
     for state in 0..states {
@@ -236,8 +242,8 @@ fn room(alloc: Global, words: usize) -> Result<Vec<u64>, Memory>
     Ok(vec![in alloc; 0; words]?)
 }
 
-/// The useful states: those that are reached from the initial state and reach an accepting state, in Büchi mode one that lies on
-/// a cycle.
+/// The useful states: those that are reached from the initial state and reach an accepting state,
+/// in Büchi mode one that lies on a cycle.
 pub fn useful(alloc: Global, automaton: &Auto, mode: Mode) -> Result<StateSet, Memory>
     ensures states { IfOk result (λ s. s.states ≡ automaton.now.states) }
     ensures members { IfOk result (λ s. AreUseful automaton.now mode s.members) }
