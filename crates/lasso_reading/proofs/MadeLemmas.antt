@@ -13,7 +13,8 @@ use Rattle.auto_core.specs.Quotient.{class_of}
 use Rattle.auto_core.specs.declared.parts.Trans.{Trans}
 use Rattle.auto_core.proofs.MoveLemmas.{outgoing_moves, moves_in_outgoing, move_in_range}
 use Rattle.product_search.specs.Found.{pair_at, Grows}
-use Rattle.product_search.proofs.FoundLemmas.{grows_on, grows_size, grows_at, contains_at, same_pair}
+use Rattle.product_search.proofs.FoundLemmas.{grows_on, grows_size, grows_at, same_pair}
+use Rattle.product_search.proofs.MorePairs.{contains_at, size_more, old_at, each_pair, different_more}
 use Rattle.product_search.proofs.PairLemmas.{is_same, same_is, is_added}
 use Rattle.lasso_reading.specs.Reading.{next_position, ReadsOn, ReadsAlong, IsReadPair}
 use Rattle.lasso_reading.specs.Made.{IsNumbered, IsFollowed, ArePairs, IsMove, AreMoves}
@@ -67,42 +68,14 @@ module _ (A : Automaton) (classes cu cv : List ℕ) where
     abbrev more : List (ℕ × ℕ)
     more = pairs ++ x ∷ []
 
-    size_more : length more ≡ length pairs + 1
-    size_more = length-append pairs (x ∷ [])
-
-    old_at : (i : ℕ) → i < length pairs → pair_at more i ≡ pair_at pairs i
-    old_at i lt = get_or_append_left pairs (x ∷ []) (0, 0) i lt
-
-    new_at : (i : ℕ) → i ≡ length pairs → pair_at more i ≡ x
-    new_at i e = get_or_push pairs x (0, 0) i (sym e)
-
-    each_pair : (P : ℕ × ℕ → Type 0) → ((i : ℕ) → i < length pairs → P (pair_at pairs i)) → P x → (i : ℕ) → i < length more → P (pair_at more i)
-    each_pair P old here i lt = elim (cases_eq i (length pairs)) [
-      | inl e ↦ subst P (sym (new_at i e)) here
-      | inr apart ↦ let below : i < length pairs = omega (arith, lt, size_more, apart) in subst P (sym (old_at i below)) (old i below)
-    ]
-
-    different_more : (Contains pairs x → ⊥) → (i j : ℕ) → i < j → j < length more → pair_at more i ≡ pair_at more j → ⊥
-    different_more new i j lt within same =
-        let size = size_more in
-        elim (cases_eq j (length pairs)) [
-          | inl e ↦
-              let below : i < length pairs = omega arith in
-              new (subst (λ y. Contains pairs y) (sym (old_at i below) ∙ same ∙ new_at j e) (contains_at pairs i below))
-          | inr apart ↦
-              let below : j < length pairs = omega arith in
-              let i_below : i < length pairs = omega arith in
-              are.different i j lt below (sym (old_at i i_below) ∙ same ∙ old_at j below)
-        ]
-
     pairs_more : (from a : ℕ) → from < length pairs → ReadsOn A classes cu cv (pair_at pairs from) a x → x.0 < A.states → x.1 < length (cu ++ cv) → (Contains pairs x → ⊥) → ArePairs A classes cu cv more
     pairs_more from a from_in reads state position new = record {
-      some = let some = are.some in let size = size_more in omega arith;
-      initial = old_at 0 are.some ∙ are.initial;
-      states = each_pair (λ y. y.0 < A.states) are.states state;
-      positions = each_pair (λ y. y.1 < length (cu ++ cv)) are.positions position;
-      different = different_more new;
-      reached = each_pair (IsReadPair A classes cu cv) are.reached (let (w, along) = are.reached from from_in in (w ++ a ∷ [], reads_push (A.initial, 0) w (pair_at pairs from) a x along reads));
+      some = let some = are.some in let size = size_more pairs x in omega arith;
+      initial = old_at pairs x 0 are.some ∙ are.initial;
+      states = each_pair pairs x (λ y. y.0 < A.states) are.states state;
+      positions = each_pair pairs x (λ y. y.1 < length (cu ++ cv)) are.positions position;
+      different = different_more pairs x are.different new;
+      reached = each_pair pairs x (IsReadPair A classes cu cv) are.reached (let (w, along) = are.reached from from_in in (w ++ a ∷ [], reads_push (A.initial, 0) w (pair_at pairs from) a x along reads));
     }
 
   pub numbered_pairs :

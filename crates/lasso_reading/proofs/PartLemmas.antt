@@ -35,6 +35,14 @@ more_passed test n made new b is e more =
     step true = ap (λ l. l ++ n ∷ []) e
     step false = e ∙ sym (append-nil (filter test (range_with_len 0 n)))
 
+-- The numbers that were found are those of the accepting pairs.
+pub accepting_numbers :
+    (A : Automaton) (pairs : List (ℕ × ℕ)) (count : ℕ) (numbers : List ℕ)
+    → count ≡ length pairs
+    → numbers ≡ filter (accepts_at A pairs) (range_with_len 0 count)
+    → numbers ≡ filter (accepts_at A pairs) (range_with_len 0 (length pairs))
+accepting_numbers A pairs count numbers all is = is ∙ ap (λ n. filter (accepts_at A pairs) (range_with_len 0 n)) all
+
 all_from : {X : Type 0} (P : X → Type 0) (xs : List X) → ((x : X) → Contains xs x → P x) → All P xs
 all_from P xs f k d lt = f (get_or xs k d) (Contains-get_or xs k d lt)
 

@@ -9,6 +9,7 @@ use Rattle.auto_core.specs.declared.parts.Trans.{Trans}
 use Rattle.product_laws.specs.Ranked.{IsDeterministic}
 use Rattle.product_laws.specs.Reached.{GoesTo}
 use Rattle.product_search.specs.declared.found.Step.{Step}
+use Rattle.product_search.proofs.MorePairs.{contains_at, size_more, old_at, new_at, each_pair, different_more}
 use Rattle.product_search.specs.Found.{pair_at, step_at, IsQuietEnough, Follows, IsFoundBy, AreFound, Grows, Went, Expanded, IsClosedAt}
 
 pub grows_itself : (xs : List (ℕ × ℕ)) → Grows xs xs
@@ -25,9 +26,6 @@ grows_at xs ys (more, is) i lt = ap (λ l. pair_at l i) is ∙ get_or_append_lef
 
 pub grows_contains : (xs ys : List (ℕ × ℕ)) → Grows xs ys → (x : ℕ × ℕ) → Contains xs x → Contains ys x
 grows_contains xs ys (more, is) x h = subst (λ l. Contains l x) (sym is) (Contains-append_left xs more x h)
-
-pub contains_at : (xs : List (ℕ × ℕ)) (i : ℕ) → i < length xs → Contains xs (pair_at xs i)
-contains_at xs i lt = Contains-get_or xs i (0, 0) lt
 
 pub place_of : (xs : List (ℕ × ℕ)) (x : ℕ × ℕ) → Contains xs x → (i : ℕ) × (i < length xs) × (pair_at xs i ≡ x)
 place_of xs x (i, lt, is) = (i, lt, get_or_default xs i (0, 0) x lt ∙ is)
@@ -67,47 +65,19 @@ module _ (A B : Automaton) (quiet : Bool) (pairs : List (ℕ × ℕ)) (steps : L
     abbrev more_steps : List Step
     more_steps = steps ++ step ∷ []
 
-    size_more : length more_pairs ≡ length pairs + 1
-    size_more = length-append pairs (x ∷ [])
-
-    old_at : (i : ℕ) → i < length pairs → pair_at more_pairs i ≡ pair_at pairs i
-    old_at i lt = get_or_append_left pairs (x ∷ []) (0, 0) i lt
-
-    new_at : (i : ℕ) → i ≡ length pairs → pair_at more_pairs i ≡ x
-    new_at i e = get_or_push pairs x (0, 0) i (sym e)
-
-    each_pair : (P : ℕ × ℕ → Type 0) → ((i : ℕ) → i < length pairs → P (pair_at pairs i)) → P x → (i : ℕ) → i < length more_pairs → P (pair_at more_pairs i)
-    each_pair P old here i lt = elim (cases_eq i (length pairs)) [
-      | inl e ↦ subst P (sym (new_at i e)) here
-      | inr apart ↦ let below : i < length pairs = omega (arith, lt, size_more, apart) in subst P (sym (old_at i below)) (old i below)
-    ]
-
     step_old : (i : ℕ) → i < length pairs → step_at more_steps i ≡ step_at steps i
     step_old i lt = get_or_append_left steps (step ∷ []) (record { from = 0; letter = 0 }) i (let size = found.size in omega arith)
 
     step_new : (i : ℕ) → i ≡ length pairs → step_at more_steps i ≡ step
     step_new i e = get_or_push steps step (record { from = 0; letter = 0 }) i (found.size ∙ sym e)
 
-    different_more : (i j : ℕ) → i < j → j < length more_pairs → pair_at more_pairs i ≡ pair_at more_pairs j → ⊥
-    different_more i j lt within same =
-        let size = size_more in
-        elim (cases_eq j (length pairs)) [
-          | inl e ↦
-              let below : i < length pairs = omega arith in
-              new (subst (λ y. Contains pairs y) (sym (old_at i below) ∙ same ∙ new_at j e) (contains_at pairs i below))
-          | inr apart ↦
-              let below : j < length pairs = omega arith in
-              let i_below : i < length pairs = omega arith in
-              found.different i j lt below (sym (old_at i i_below) ∙ same ∙ old_at j below)
-        ]
-
     found_more : (i : ℕ) → 0 < i → i < length more_pairs → IsFoundBy A B quiet more_pairs (step_at more_steps i) i
     found_more i some lt =
-        let size = size_more in
+        let size = size_more pairs x in
         elim (cases_eq i (length pairs)) [
           | inl e ↦ subst (λ s. IsFoundBy A B quiet more_pairs s i) (sym (step_new i e)) (
             subst (λ n. step.from < n) (sym e) from_in,
-            subst (λ y. Follows A B quiet y step.letter (pair_at more_pairs i)) (sym (old_at step.from from_in)) (subst (λ y. Follows A B quiet (pair_at pairs step.from) step.letter y) (sym (new_at i e)) follows),
+            subst (λ y. Follows A B quiet y step.letter (pair_at more_pairs i)) (sym (old_at pairs x step.from from_in)) (subst (λ y. Follows A B quiet (pair_at pairs step.from) step.letter y) (sym (new_at pairs x i e)) follows),
           )
           | inr apart ↦
               let below : i < length pairs = omega arith in
@@ -116,18 +86,18 @@ module _ (A B : Automaton) (quiet : Bool) (pairs : List (ℕ × ℕ)) (steps : L
               let from_below : (step_at steps i).from < length pairs = omega arith in
               subst (λ s. IsFoundBy A B quiet more_pairs s i) (sym (step_old i below)) (
                 before,
-                subst (λ y. Follows A B quiet y (step_at steps i).letter (pair_at more_pairs i)) (sym (old_at (step_at steps i).from from_below))
-                    (subst (λ y. Follows A B quiet (pair_at pairs (step_at steps i).from) (step_at steps i).letter y) (sym (old_at i below)) old.1),
+                subst (λ y. Follows A B quiet y (step_at steps i).letter (pair_at more_pairs i)) (sym (old_at pairs x (step_at steps i).from from_below))
+                    (subst (λ y. Follows A B quiet (pair_at pairs (step_at steps i).from) (step_at steps i).letter y) (sym (old_at pairs x i below)) old.1),
               )
         ]
 
     pub one_more : AreFound A B quiet more_pairs more_steps
     one_more = record {
-      some = let some = found.some in let size = size_more in omega arith;
-      size = length-append steps (step ∷ []) ∙ ap (λ n. n + 1) found.size ∙ sym size_more;
-      left = each_pair (λ y. y.0 < A.states) found.left left;
-      right = each_pair (λ y. y.1 ≤ B.states) found.right right;
-      different = different_more;
+      some = let some = found.some in let size = size_more pairs x in omega arith;
+      size = length-append steps (step ∷ []) ∙ ap (λ n. n + 1) found.size ∙ sym (size_more pairs x);
+      left = each_pair pairs x (λ y. y.0 < A.states) found.left left;
+      right = each_pair pairs x (λ y. y.1 ≤ B.states) found.right right;
+      different = different_more pairs x found.different new;
       found = found_more;
     }
 

@@ -1,3 +1,4 @@
+pub mod MorePairs
 pub mod FoundLemmas
 pub mod PairLemmas
 pub mod ArcLemmas

@@ -1,8 +1,6 @@
-use Rattle.std.proofs.Common.{◌≡◌, inl, inr, length, filter, sym, ap, ◌∙◌}
-use Rattle.std.specs.List.{range_with_len}
+use Rattle.std.proofs.Common.{◌≡◌, inl, inr, length, sym, ◌∙◌}
 use Rattle.std.proofs.lemmas.Bool.{true≢false}
-use Rattle.lasso_reading.specs.Made.{accepts_at}
-use Rattle.lasso_reading.proofs.PartLemmas.{product_parts, product_reads}
+use Rattle.lasso_reading.proofs.PartLemmas.{accepting_numbers, product_parts, product_reads}
 use Rattle.lasso_reading.proofs.product.product_with.Goals as goal
 
 pub of_parts-requires : goal.of_parts-requires
@@ -11,8 +9,7 @@ of_parts-requires c =
     let pairs = c.expand_all.new.self.pairs.keys in
     let moves = c.expand_all.new.self.moves.items in
     let count : c.len-count.result ≡ length pairs = c.len-count.ensures.len in
-    let numbers : c.deref-2.result.now ≡ filter (accepts_at A pairs) (range_with_len 0 (length pairs)) =
-    c.deref-2.ensures.value ∙ c.in_ok-accepting.ensures ∙ ap (λ n. filter (accepts_at A pairs) (range_with_len 0 n)) count in
+    let numbers = accepting_numbers A pairs c.len-count.result c.deref-2.result.now count (c.deref-2.ensures.value ∙ c.in_ok-accepting.ensures) in
     elim c.in_ok-expand_all.ensures [
       | inl (on, whole, fits, (are, are_moves)) ↦
           rw (count, c.labels-labels.ensures.count, c.deref.ensures.value, numbers)
@@ -27,8 +24,7 @@ returns-clause-reads c =
     let pairs = c.expand_all.new.self.pairs.keys in
     let moves = c.expand_all.new.self.moves.items in
     let count : c.len-count.result ≡ length pairs = c.len-count.ensures.len in
-    let numbers : c.deref-2.result.now ≡ filter (accepts_at A pairs) (range_with_len 0 (length pairs)) =
-    c.deref-2.ensures.value ∙ c.in_ok-accepting.ensures ∙ ap (λ n. filter (accepts_at A pairs) (range_with_len 0 n)) count in
+    let numbers = accepting_numbers A pairs c.len-count.result c.deref-2.result.now count (c.deref-2.ensures.value ∙ c.in_ok-accepting.ensures) in
     elim c.in_ok-expand_all.ensures [
       | inl (on, whole, fits, (are, are_moves)) ↦
           product_reads A c.args.classes.now c.args.prefix.now c.args.turn.now c.labels-labels.ensures.valid pairs moves are are_moves P

@@ -1,0 +1,3 @@
+pub mod Coarsest
+pub mod Signatures
+pub mod Rounds

@@ -1,0 +1,4 @@
+pub mod Across
+pub mod Announced
+pub mod Greatest
+pub mod Listed
