@@ -9,8 +9,8 @@ use Rattle.auto_core.specs.ClosedPairs.{ClosedPairs}
 use Rattle.auto_core.specs.Outcome.{Entry, Closed, TellsLive, arcs_in}
 use Rattle.auto_core.specs.PairOutcome.{PairSearchEnds, ArePairsListed, NoPairSubsumedBefore, pair_rules}
 use Rattle.cert_value.specs.declared.types.Element.{Element}
-use Rattle.search_laws.specs.PairOutcomes.{HavePairOrigins}
-use Rattle.search_laws.proofs.PairOutcomeLemmas.{pair_origins_fit, closed_list_is_closed_pairs, closed_list_includes_words, live_pairs_stand_apart, apart_separates_word, limit_lists_pairs}
+use Rattle.auto_laws.specs.PairOutcomes.{HavePairOrigins}
+use Rattle.auto_laws.proofs.PairOutcomeLemmas.{pair_origins_fit, closed_list_is_closed_pairs, closed_list_includes_words, live_pairs_stand_apart, apart_separates_word, limit_lists_pairs}
 use Rattle.evidence.specs.declared.parts.Closure.{Closure}
 use Rattle.antichain.specs.declared.parts.WordOutcome.{WordOutcome}
 use Rattle.antichain.specs.declared.parts.WordOutcome.TheVariants as end

@@ -10,8 +10,8 @@ use Rattle.cert_value.specs.declared.types.Element.{Element}
 use Rattle.cert_value.specs.declared.types.Mark.{Mark}
 use Rattle.cert_value.specs.declared.types.Mark.TheVariants.{Live, Under}
 use Rattle.cert_value.specs.declared.types.StepLine.{StepLine}
-use Rattle.search_laws.proofs.PlaceLemmas.{at_some, same_maps}
-use Rattle.search_laws.proofs.ListLemmas.{read_map}
+use Rattle.auto_laws.proofs.PlaceLemmas.{at_some, same_maps}
+use Rattle.auto_laws.proofs.ListLemmas.{read_map}
 use Rattle.antichain.specs.declared.parts.Held.{Held}
 use Rattle.evidence.specs.declared.parts.Closure.{Closure}
 use Rattle.antichain.specs.declared.family.Family.{Family}

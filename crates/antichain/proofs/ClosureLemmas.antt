@@ -7,12 +7,12 @@ use Rattle.auto_core.specs.PairOutcome.{PairSearchEnds, start_entry, pair_rules}
 use Rattle.cert_value.specs.declared.types.Element.{Element}
 use Rattle.cert_value.specs.declared.types.Mark.{Mark}
 use Rattle.cert_value.specs.declared.types.Mark.TheVariants.{Live, Under}
-use Rattle.search_laws.specs.PairOutcomes.{HavePairOrigins}
-use Rattle.search_laws.proofs.PlaceLemmas.{at_same, at_within, at_some, at_cases}
-use Rattle.search_laws.proofs.SearchLemmas.{HasClosed}
-use Rattle.search_laws.proofs.PlacingLemmas.{next_extends}
-use Rattle.search_laws.proofs.PairEntryLemmas.{start_starts}
-use Rattle.search_laws.proofs.PairOutcomeLemmas.{closed_end, pair_met_is_subsumed}
+use Rattle.auto_laws.specs.PairOutcomes.{HavePairOrigins}
+use Rattle.auto_laws.proofs.PlaceLemmas.{at_same, at_within, at_some, at_cases}
+use Rattle.auto_laws.proofs.SearchLemmas.{HasClosed}
+use Rattle.auto_laws.proofs.PlacingLemmas.{next_extends}
+use Rattle.auto_laws.proofs.PairEntryLemmas.{start_starts}
+use Rattle.auto_laws.proofs.PairOutcomeLemmas.{closed_end, pair_met_is_subsumed}
 use Rattle.antichain.specs.declared.parts.Held.{Held}
 use Rattle.antichain.specs.declared.family.Family.{Family}
 use Rattle.antichain.specs.Kept.{IsKept, IsFamily, IsWhole, entries_held}

@@ -10,9 +10,9 @@ use Rattle.auto_core.specs.Pairs.{IsPairPlacedAt}
 use Rattle.auto_core.specs.PairOutcome.{pair_rules}
 use Rattle.auto_core.proofs.MemberLemmas.{filter_has, filter_from}
 use Rattle.auto_core.proofs.PathLemmas.{Contains-here, Contains-cons_cases, none_in_nil}
-use Rattle.search_laws.proofs.PlaceLemmas.{at_same, at_within, at_some, at_more, at_new, at_cases}
-use Rattle.search_laws.proofs.PlacingLemmas.{FitsBehind}
-use Rattle.search_laws.proofs.PairEntryLemmas.{origins_more}
+use Rattle.auto_laws.proofs.PlaceLemmas.{at_same, at_within, at_some, at_more, at_new, at_cases}
+use Rattle.auto_laws.proofs.PlacingLemmas.{FitsBehind}
+use Rattle.auto_laws.proofs.PairEntryLemmas.{origins_more}
 use Rattle.antichain.specs.declared.parts.Held.{Held}
 use Rattle.antichain.specs.declared.family.Family.{Family}
 use Rattle.evidence.specs.Tables.{numbers_at}

@@ -7,7 +7,7 @@ use Rattle.auto_core.specs.Outcome.{Entry, next_entry}
 use Rattle.auto_core.specs.Pairs.{set_after, PairSubsumes, PairPasses, PairFails}
 use Rattle.auto_core.specs.PairOutcome.{pair_entry, start_entry}
 use Rattle.auto_core.specs.declared.parts.Origin.TheVariants.{Start, Next}
-use Rattle.search_laws.proofs.PairLemmas.{sets_extend}
+use Rattle.auto_laws.proofs.PairLemmas.{sets_extend}
 use Rattle.set_rows.specs.Sets.{IsRow, IsSubset, IsCovered}
 use Rattle.antichain.specs.Kept.{IsKept, IsPrepared, held_pair}
 use Rattle.antichain.specs.declared.parts.Held.{Held}

@@ -2,7 +2,7 @@
 use Rattle.std.proofs.Common.{◌≡◌, ℕ, List, [], refl, sym, subst, inl, inr, arith}
 use Rattle.auto_core.specs.Automaton.{Automaton}
 use Rattle.auto_core.specs.Outcome.{At}
-use Rattle.search_laws.proofs.PlaceLemmas.{at_cases, at_within}
+use Rattle.auto_laws.proofs.PlaceLemmas.{at_cases, at_within}
 use Rattle.antichain.specs.declared.sets.Made.{Made}
 use Rattle.antichain.specs.Made.{IsMade, AreMade, IsRemembered, HasRemembered}
 

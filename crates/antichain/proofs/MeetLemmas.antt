@@ -5,9 +5,9 @@ use Rattle.auto_core.specs.Automaton.{Automaton}
 use Rattle.auto_core.specs.Game.{IsGreatestForward}
 use Rattle.auto_core.specs.Outcome.{At, Entry, Rules, HasSubsumer, HasNoSubsumer, IsLeastSubsumer}
 use Rattle.auto_core.specs.PairOutcome.{pair_rules}
-use Rattle.search_laws.proofs.PairOutcomeLemmas.{pair_entries_join}
-use Rattle.search_laws.proofs.PlaceLemmas.{at_within, at_some}
-use Rattle.search_laws.proofs.LiveLemmas.{live_one}
+use Rattle.auto_laws.proofs.PairOutcomeLemmas.{pair_entries_join}
+use Rattle.auto_laws.proofs.PlaceLemmas.{at_within, at_some}
+use Rattle.auto_laws.proofs.LiveLemmas.{live_one}
 use Rattle.antichain.specs.declared.parts.Held.{Held}
 use Rattle.antichain.specs.declared.family.Family.{Family}
 use Rattle.evidence.specs.Tables.{numbers_at}

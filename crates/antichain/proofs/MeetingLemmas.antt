@@ -3,7 +3,7 @@ use Rattle.std.proofs.Common.{ℕ, ◌+◌, ◌<◌, ◌≤◌, Bool, false, Lis
 use Rattle.auto_core.specs.Game.{Holds}
 use Rattle.auto_core.specs.Pairs.{StatePair, PairSubsumes}
 use Rattle.auto_core.specs.Outcome.{At}
-use Rattle.search_laws.proofs.PlaceLemmas.{at_within}
+use Rattle.auto_laws.proofs.PlaceLemmas.{at_within}
 use Rattle.evidence.proofs.DropLemmas.{AreDroppedSoFar as DroppedSoFar, dropped_more as more_dropped, kept_more as more_kept}
 use Rattle.antichain.specs.declared.parts.Held.{Held}
 use Rattle.antichain.specs.Kept.{held_pair, IsSubsumedOf, AreDropped}

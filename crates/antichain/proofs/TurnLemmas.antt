@@ -7,11 +7,11 @@ use Rattle.auto_core.specs.Pairs.{PairSubsumes, PairPasses, PairFails, IsPairPla
 use Rattle.auto_core.specs.Outcome.{At, Entry, Closed, Apart, Limit, HasSubsumer, HasNoSubsumer, PassesBefore, FirstFailing, Comes, passed_over, limit_met, told_apart, entered, done, next_entry, arcs_in}
 use Rattle.auto_core.specs.PairOutcome.{pair_entry, start_entry, pair_rules}
 use Rattle.auto_core.specs.declared.parts.Origin.TheVariants.{Start, Next}
-use Rattle.search_laws.specs.PairOutcomes.{HavePairOrigins}
-use Rattle.search_laws.proofs.PlaceLemmas.{at_within, at_some, at_more, at_new, at_before, read_at}
-use Rattle.search_laws.proofs.PairLemmas.{reached_in_range, pair_subsumes_itself}
-use Rattle.search_laws.proofs.PlacingLemmas.{FitsBehind, next_fits}
-use Rattle.search_laws.proofs.PairEntryLemmas.{pair_placing, origins_more, entry_is_reached}
+use Rattle.auto_laws.specs.PairOutcomes.{HavePairOrigins}
+use Rattle.auto_laws.proofs.PlaceLemmas.{at_within, at_some, at_more, at_new, at_before, read_at}
+use Rattle.auto_laws.proofs.PairLemmas.{reached_in_range, pair_subsumes_itself}
+use Rattle.auto_laws.proofs.PlacingLemmas.{FitsBehind, next_fits}
+use Rattle.auto_laws.proofs.PairEntryLemmas.{pair_placing, origins_more, entry_is_reached}
 use Rattle.evidence.proofs.RangeLemmas.{extensions_from, extensions_more}
 use Rattle.evidence.proofs.TurnLemmas.{live_leads, dropped_leads}
 use Rattle.evidence.specs.Entries.{entry_of, entries_of}

@@ -9,9 +9,9 @@ use Rattle.auto_core.specs.declared.parts.Origin.{Origin}
 use Rattle.auto_core.specs.declared.parts.Origin.TheVariants.{Start, Base, Next}
 use Rattle.auto_core.proofs.PathLemmas.{none_in_nil}
 use Rattle.supergraph.specs.Words.{NamesWhatIsThere, NameWhatIsThere, word_at}
-use Rattle.search_laws.proofs.PlaceLemmas.{at_within}
-use Rattle.search_laws.proofs.PlacingLemmas.{arc_here}
-use Rattle.search_laws.proofs.PairEntryLemmas.{origins_of_none}
+use Rattle.auto_laws.proofs.PlaceLemmas.{at_within}
+use Rattle.auto_laws.proofs.PlacingLemmas.{arc_here}
+use Rattle.auto_laws.proofs.PairEntryLemmas.{origins_of_none}
 use Rattle.antichain.specs.declared.parts.Held.{Held}
 use Rattle.antichain.specs.declared.family.Family.{Family}
 use Rattle.evidence.specs.Tables.{numbers_at}

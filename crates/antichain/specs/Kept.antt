@@ -7,7 +7,7 @@ use Rattle.auto_core.specs.Rows.{HasBit}
 use Rattle.auto_core.specs.Outcome.{At, Entry, Outcome, Closed, Apart, Limit, Comes, TellsLive, PassesBefore, FirstFailing, arcs_in}
 use Rattle.auto_core.specs.Pairs.{StatePair, set_of, PairSubsumes, IsPairPlacedAt}
 use Rattle.auto_core.specs.PairOutcome.{pair_rules, PairSearchEnds}
-use Rattle.search_laws.specs.PairOutcomes.{HavePairOrigins}
+use Rattle.auto_laws.specs.PairOutcomes.{HavePairOrigins}
 use Rattle.set_rows.specs.Sets.{IsRow, IsSubset, IsCovered}
 use Rattle.evidence.specs.Tables.{numbers_at}
 use Rattle.evidence.specs.Entries.{entry_of, entries_of}

@@ -8,7 +8,7 @@ ghost use Rattle.antichain.specs.Made.{IsMade, AreMade, IsRemembered, HasRemembe
 use crate::candidates::below;
 use auto_core::{Auto, Memory, rows};
 use bit_rel::Rel;
-use row_steps::are_equal;
+use bit_rows::are_equal;
 use set_rows::write_after;
 use std::alloc::Global;
 

@@ -8,7 +8,7 @@ use Rattle.auto_core.specs.Automaton.{HasRepeat}
 use Rattle.auto_core.specs.Outcome.{At}
 use Rattle.auto_core.proofs.PathLemmas.{Contains-here, Contains-later, Contains-cons_cases, none_in_nil}
 use Rattle.auto_core.proofs.MemberLemmas.{Rises}
-use Rattle.path_laws.proofs.PumpingLemmas.{pigeonhole}
+use Rattle.auto_laws.proofs.PumpingLemmas.{pigeonhole}
 use Rattle.auto_ops.proofs.SightLemmas.{at_one, place_of}
 
 module _ {X Y : Type 0} (R : X → Y → Type 0) (ys : List Y) where

@@ -6,7 +6,7 @@ use Rattle.auto_core.specs.Automaton.{Automaton}
 use Rattle.auto_core.specs.Run.{Run, repeated}
 use Rattle.auto_core.specs.Accept.{AcceptsLasso}
 use Rattle.auto_core.proofs.PathLemmas.{run_join, run_split}
-use Rattle.path_laws.proofs.PumpingLemmas.{repeated-times}
+use Rattle.auto_laws.proofs.PumpingLemmas.{repeated-times}
 
 -- A run on u and k turns of v, and from its end a flagged cycle of m turns.
 pub record Loops (A : Automaton) (u v : List ℕ) (k m : ℕ) : Type 0 where

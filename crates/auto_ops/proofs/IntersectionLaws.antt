@@ -9,8 +9,8 @@ use Rattle.auto_core.specs.Outcome.{At}
 use Rattle.auto_core.specs.declared.parts.Mode.{Mode}
 use Rattle.auto_core.specs.declared.parts.Mode.TheVariants.{Buchi, Finite}
 use Rattle.auto_core.proofs.PathLemmas.{accepting_from_test, test_from_accepting, run_join}
-use Rattle.path_laws.specs.Pumping.{RunsPast}
-use Rattle.path_laws.proofs.PumpingLemmas.{pumping, reblock, repeated-add}
+use Rattle.auto_laws.specs.Pumping.{RunsPast}
+use Rattle.auto_laws.proofs.PumpingLemmas.{pumping, reblock, repeated-add}
 use Rattle.auto_ops.specs.declared.product_states.ProductState.{ProductState}
 use Rattle.auto_ops.specs.Intersection.{product_state, start_of, awaits_after, GoesBeside, IsAcceptingProductState, ProductMove, IsIntersection, same_product_state, moves_from}
 use Rattle.auto_ops.specs.Laws.{IntersectionOfLassos, IntersectionOfWords}

@@ -13,3 +13,10 @@ pub mod LabelLemmas
 pub mod CountLemmas
 pub mod FaultlessLemmas
 pub mod PieceLemmas
+pub mod CutLemmas
+pub mod OrderLemmas
+pub mod JoinedReadLemmas
+pub mod JoinedBackLemmas
+pub mod TurnedLemmas
+pub mod WithLemmas
+pub mod OwnLemmas

@@ -11,8 +11,8 @@ use Rattle.ba_format.specs.declared.parts.Named.{Named}
 use Rattle.ba_format.specs.declared.parts.ReadFault.{ReadFault}
 use Rattle.ba_format.specs.declared.parts.ReadFault.TheVariants.{Ba, Memory as OutOfMemory}
 use Rattle.ba_format.specs.declared.pieces.Lines.{Lines}
-use Rattle.text_lines.specs.Cut.{is_newline, HasNewline, IsUnfinished}
-use Rattle.text_lines.proofs.CutLemmas.{has_more, before_more, after_more, has_on, before_on, after_on}
+use Rattle.ba_format.specs.Cut.{is_newline, HasNewline, IsUnfinished}
+use Rattle.ba_format.proofs.CutLemmas.{has_more, before_more, after_more, has_on, before_on, after_on}
 use Rattle.ba_format.specs.Grammar.{NumberedLine, trimmed, onto_lines, lines_from, lines_in, content_of}
 use Rattle.ba_format.specs.Faults.{kind_of_line, first_fault, fault_of_lines, fault_of, contents_of}
 use Rattle.ba_format.specs.Draft.{Stands, Fits}

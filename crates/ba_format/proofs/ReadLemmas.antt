@@ -13,7 +13,7 @@ use Rattle.ba_format.specs.declared.draft.Opening.{Opening}
 use Rattle.ba_format.specs.declared.draft.Opening.TheVariants.{Nothing, OneState, States, Transitions}
 use Rattle.ba_format.specs.declared.draft.Draft.{Draft}
 use Rattle.ba_format.specs.Grammar.{NumberedLine as TextLine, LineContent, trimmed, onto_lines, lines_from, lines_in, content_of}
-use Rattle.text_lines.specs.Cut.{is_newline}
+use Rattle.ba_format.specs.Cut.{is_newline}
 use Rattle.ba_format.specs.Faults.{kind_of_line, or_later, first_fault, fault_of_lines, fault_of, contents_of}
 use Rattle.ba_format.specs.Draft.{Opens, Stands, Fits}
 

@@ -14,7 +14,7 @@ use Rattle.auto_core.specs.declared.parts.Trans.{Trans}
 use Rattle.auto_core.specs.Automaton.{Automaton, IsAutomaton}
 use Rattle.ba_format.specs.declared.parts.Limits.{Limits}
 use Rattle.ba_format.specs.Grammar.{NumberedLine, LineContent, StateLine, TransitionLine, is_blank, without_leading, trimmed, onto_lines, lines_from, lines_in, arrows, before_arrow, after_arrow, is_comma, content_of, is_bad, is_shaped, is_empty, is_long, token_fault, own_fault}
-use Rattle.text_lines.specs.Cut.{is_newline}
+use Rattle.ba_format.specs.Cut.{is_newline}
 use Rattle.ba_format.specs.Sight.{same_text}
 use Rattle.ba_format.specs.Faults.{states_in, labels_in, transitions_in, same_trans, names_of, labels_of, transitions_of, is_state_line, opens_twice, later_fault, kind_of_line, or_later, first_fault, fault_of, contents_of}
 use Rattle.ba_format.specs.Draft.{Fits}

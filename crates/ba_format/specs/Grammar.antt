@@ -1,7 +1,7 @@
 -- The grammar of `.ba` texts: lines, what a line says, and what is wrong with a line by itself.
 use Rattle.std.specs.Prelude.{ℕ, ◌+◌, Bool, not, ◌&&◌, ◌||◌, List, [], ◌∷◌, reverse, length, count_by, if◌then◌else◌, ◌==◌, nat_lt, Option, None, Some}
 use Rattle.std.specs.List.{list_any, slice_split, before_first, after_first}
-use Rattle.text_lines.specs.Cut.{is_newline}
+use Rattle.ba_format.specs.Cut.{is_newline}
 use Rattle.ba_format.specs.declared.lines.TheConstants.{TOKEN_LIMIT}
 use Rattle.ba_format.specs.declared.parts.BaKind.{BaKind}
 use Rattle.ba_format.specs.declared.parts.BaKind.TheVariants.{BadByte, Shape, EmptyToken, TokenLong}

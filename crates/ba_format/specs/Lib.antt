@@ -9,3 +9,5 @@ pub mod Reading
 pub mod Pieces
 pub mod Writing
 pub mod Laws
+pub mod Cut
+pub mod Joins

@@ -9,7 +9,7 @@ use Rattle.ba_format.specs.declared.pieces.Lines.{Lines}
 use Rattle.ba_format.specs.declared.pieces.Progress.{Progress}
 use Rattle.ba_format.specs.declared.pieces.Progress.TheVariants.{Faultless, Faulty, Refused}
 use Rattle.ba_format.specs.declared.pieces.Reader.{Reader}
-use Rattle.text_lines.specs.Cut.{is_newline, IsUnfinished}
+use Rattle.ba_format.specs.Cut.{is_newline, IsUnfinished}
 use Rattle.ba_format.specs.Grammar.{LineContent, lines_from, lines_in, content_of}
 use Rattle.ba_format.specs.Faults.{first_fault, fault_of, contents_of}
 use Rattle.ba_format.specs.Draft.{Stands, Fits}

@@ -2,19 +2,19 @@
 
 ghost use Rattle.std.specs.Prelude.{◌≡◌, ◌+◌, ◌^◌, ◌≤◌, ◌⊎◌, ◌++◌, List, ℕ, [], length, position, Some, Ok, Err, IfOk, OnOk, OnErr, IsErr, MatchOption, MatchResult};
 ghost use Rattle.std.specs.List.{before_first, after_first};
-ghost use Rattle.text_lines.specs.Cut.{is_newline, HasNewline, IsUnfinished};
+ghost use Rattle.ba_format.specs.Cut.{is_newline, HasNewline, IsUnfinished};
 ghost use Rattle.ba_format.specs.declared.parts.BaFault.{BaFault as AFault};
 ghost use Rattle.ba_format.specs.declared.parts.Limits.{Limits as TheLimits};
 ghost use Rattle.ba_format.specs.Faults.{fault_of};
 ghost use Rattle.ba_format.specs.Reading.{Reads, IsWithinLimits};
 ghost use Rattle.ba_format.specs.Pieces.{AreTaken, TellsFirstFault, HasRead, ReaderLacksMemory};
 
+use crate::cut::split_line;
 use crate::draft::{Draft, NotTaken, Opening};
 use crate::lines::trimmed;
 use crate::parts::{BaFault, BaKind, Limits, Named, ReadFault};
 use auto_core::Memory;
 use std::alloc::Global;
-use text_lines::split_line;
 
 /// What the lines so far bring.
 #[derive(Drop)]
@@ -129,11 +129,11 @@ pub struct Reader {
 }
 
 impl Reader {
-    /// A reader before the first piece, for texts within these limits.
-    pub fn new(alloc: Global, limits: &Limits) -> Result<Reader, Memory>
-        ensures { IfOk result (λ reader. HasRead reader limits.now []) }
+    /// A reader before the first piece, for texts within these limits. It takes no memory yet.
+    pub fn empty(alloc: Global, limits: &Limits) -> Reader
+        ensures { HasRead result limits.now [] }
     {
-        Ok(Reader {
+        Reader {
             alloc,
             lines: Lines {
                 limits: *limits,
@@ -142,7 +142,14 @@ impl Reader {
             },
             line: Vec::new(alloc),
             progress: Progress::Faultless,
-        })
+        }
+    }
+
+    /// The same, never refused.
+    pub fn new(alloc: Global, limits: &Limits) -> Result<Reader, Memory>
+        ensures { MatchResult result (λ reader. HasRead reader limits.now []) (λ _. ⊥) }
+    {
+        Ok(Reader::empty(alloc, limits))
     }
 
     /// Takes the whole lines of the piece, and keeps what stands after the last LF. No line is

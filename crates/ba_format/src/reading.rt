@@ -19,7 +19,7 @@ pub fn read(alloc: Global, bytes: &[u8], limits: &Limits) -> Result<Named, ReadF
     ensures found { (fault : BaFault) → fault_of bytes.now limits.now ≡ Some fault
         → (result ≡ Err (ReadFault.Ba fault)) ⊎ (result ≡ Err ReadFault.Memory) }
 {
-    let mut reader = Reader::new(alloc, limits)?;
+    let mut reader = Reader::empty(alloc, limits);
     match reader.feed(bytes) {
         Ok(()) => reader.finish(),
         Err(_refused) => {

@@ -5,7 +5,7 @@ use Rattle.auto_core.specs.Automaton.{Automaton, IsAutomaton}
 use Rattle.auto_core.specs.Run.{PathBy}
 use Rattle.auto_core.specs.Game.{BackwardMoves, MatchesBackward, Answers, Round, Holds, ArePairsBelow, StableBackward}
 use Rattle.look_game.proofs.SameLemmas.{same_below, same_holds, same_has}
-use Rattle.path_laws.proofs.AppliedLemmas.{followed_backward, followed_to_the_end}
+use Rattle.auto_laws.proofs.AppliedLemmas.{followed_backward, followed_to_the_end}
 use Rattle.backward_sim.specs.Preorders.{GreatestBackwardIsOne, GreatestBackwardIsFollowed, GreatestReachesTheEnd, GreatestBackwardIsReflexive}
 
 pub greatest_is_one : GreatestBackwardIsOne

@@ -4,7 +4,7 @@ use Rattle.auto_core.specs.Automaton.{Automaton, IsAutomaton}
 use Rattle.auto_core.specs.Run.{Path, PathBy, end_of}
 use Rattle.auto_core.specs.Game.{BackwardMoves, MatchesBackward, AllMatched, Holds, Close, IsGreatestBackward}
 use Rattle.bit_rel.specs.Relation.{Relation, IsClosed}
-use Rattle.path_laws.specs.Games.{IsFollowed}
+use Rattle.auto_laws.specs.Games.{IsFollowed}
 
 -- The relation is the closure of the greatest backward relation on the automaton's states.
 pub record IsGreatestBackwardClosed (A : Automaton) (k : ℕ) (R : Relation) : Type 0 where

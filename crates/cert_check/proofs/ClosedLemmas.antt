@@ -12,10 +12,10 @@ use Rattle.auto_core.specs.declared.parts.Mode.{Mode}
 use Rattle.auto_core.specs.declared.parts.Mode.TheVariants.{Buchi, Finite}
 use Rattle.auto_core.specs.declared.parts.Origin.TheVariants.{Start}
 use Rattle.auto_core.specs.declared.parts.Trans.{Trans}
-use Rattle.graph_laws.proofs.ClosedLemmas.{closed_set_includes}
-use Rattle.graph_laws.proofs.OriginLemmas.{length-arcs_of, placed_arcs_are_real}
-use Rattle.search_laws.proofs.ClosedPairLemmas.{closed_pairs_include}
-use Rattle.search_laws.proofs.PairEntryLemmas.{placed_pairs_are_reached}
+use Rattle.auto_laws.proofs.ClosedLemmas.{closed_set_includes}
+use Rattle.auto_laws.proofs.OriginLemmas.{length-arcs_of, placed_arcs_are_real}
+use Rattle.auto_laws.proofs.ClosedPairLemmas.{closed_pairs_include}
+use Rattle.auto_laws.proofs.PairEntryLemmas.{placed_pairs_are_reached}
 use Rattle.cert_value.specs.declared.types.YesBody.{YesBody}
 use Rattle.cert_value.specs.declared.types.Element.{Element}
 use Rattle.cert_value.specs.declared.types.StepLine.{StepLine}

@@ -17,7 +17,7 @@ use Rattle.auto_core.specs.Rows.{HasBit, bit_of}
 use Rattle.auto_core.specs.Graph.{WordArc, SameGraph, graph_of, arc_at}
 use Rattle.auto_core.specs.declared.parts.Mode.{Mode}
 use Rattle.auto_core.specs.declared.parts.Mode.TheVariants.{Buchi, Finite}
-use Rattle.graph_laws.proofs.GraphLemmas.{same_sym, same_trans}
+use Rattle.auto_laws.proofs.GraphLemmas.{same_sym, same_trans}
 use Rattle.graph_rows.specs.Block.{block_graph, plane_len, joined_plane, past_plane}
 use Rattle.graph_rows.proofs.SameLemmas.{joined_same, past_same}
 use Rattle.set_rows.specs.Sets.{IsRow}

@@ -22,8 +22,8 @@ use Rattle.log_check.specs.Ends.{item_after}
 use Rattle.log_check.proofs.CheckLemmas.{all_front, all_back, broken_back, tells_fault, tells_after, each_of}
 use Rattle.cert_check.specs.Inclusion.{element_arcs, element_checks, no_element, NamesOrigin, HasEarlierParent, GoesOn}
 use Rattle.cert_check.specs.Laws.{ValidListShows}
-use Rattle.graph_laws.proofs.OriginLemmas.{placed_arcs_are_real}
-use Rattle.search_laws.proofs.PairEntryLemmas.{placed_pairs_are_reached}
+use Rattle.auto_laws.proofs.OriginLemmas.{placed_arcs_are_real}
+use Rattle.auto_laws.proofs.PairEntryLemmas.{placed_pairs_are_reached}
 use Rattle.cert_check.specs.Listing.{AreListedIn, AreDifferentListed, as_elements, SameIn, count_checks, difference_checks, listing_checks}
 use Rattle.cert_check.specs.Rules.{BodyHolds, KeepsRules, ListHolds, ListsDifferent}
 use Rattle.cert_check.proofs.ClosedLemmas.{list_parts, list_formed}

@@ -10,7 +10,7 @@ use Rattle.auto_core.specs.declared.parts.Mode.{Mode}
 use Rattle.auto_core.specs.declared.parts.Mode.TheVariants.{Buchi, Finite}
 use Rattle.auto_core.specs.declared.parts.Origin.{Origin}
 use Rattle.auto_core.specs.declared.parts.Origin.TheVariants.{Start, Base, Next}
-use Rattle.graph_laws.proofs.OriginLemmas.{arc_stays, arc_is_here}
+use Rattle.auto_laws.proofs.OriginLemmas.{arc_stays, arc_is_here}
 use Rattle.cert_value.specs.declared.types.Element.{Element}
 use Rattle.cert_value.specs.WellFormed.{is_mark, is_origin, is_element}
 use Rattle.cert_check.specs.Inclusion.{NamesOrigin, HasEarlierParent, GoesOn}

@@ -13,12 +13,12 @@ use Rattle.auto_core.specs.Rows.{HasBit}
 use Rattle.auto_core.specs.Pairs.{set_after, pair_of}
 use Rattle.auto_core.specs.declared.parts.Mode.{Mode}
 use Rattle.auto_core.specs.declared.parts.Mode.TheVariants.{Buchi, Finite}
-use Rattle.path_laws.proofs.PumpingLemmas.{run_in_range}
-use Rattle.graph_laws.proofs.OriginLemmas.{length-arcs_of}
+use Rattle.auto_laws.proofs.PumpingLemmas.{run_in_range}
+use Rattle.auto_laws.proofs.OriginLemmas.{length-arcs_of}
 use Rattle.auto_core.specs.Graph.{SameGraph, graph_of, letter_graph, extended, WordArc, IsReal, start_arc, arc_at, base_arc, extended_arc, Subsumes, LassoIn}
-use Rattle.graph_laws.proofs.GraphLemmas.{covers_more, same_sym, same_trans, same_more, graph_of_letter}
-use Rattle.graph_laws.proofs.StandingLemmas.{covers_alike, lassos_both_ways}
-use Rattle.search_laws.proofs.PairLemmas.{sets_extend, pair_more}
+use Rattle.auto_laws.proofs.GraphLemmas.{covers_more, same_sym, same_trans, same_more, graph_of_letter}
+use Rattle.auto_laws.proofs.StandingLemmas.{covers_alike, lassos_both_ways}
+use Rattle.auto_laws.proofs.PairLemmas.{sets_extend, pair_more}
 use Rattle.set_rows.specs.Sets.{IsRow, IsCovered}
 use Rattle.graph_rows.specs.Block.{block_graph, IsFormed}
 use Rattle.supergraph.specs.declared.arcs.Arc.{Arc}

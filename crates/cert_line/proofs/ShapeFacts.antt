@@ -77,6 +77,12 @@ spelled_some (keyword.RabitCross) = refl
 spelled_some (keyword.Two) = refl
 spelled_some (keyword.Yes) = refl
 spelled_some (keyword.Word) = refl
+spelled_some (keyword.Accepting) = refl
+spelled_some (keyword.Closed) = refl
+spelled_some (keyword.Letters) = refl
+spelled_some (keyword.Map) = refl
+spelled_some (keyword.Product) = refl
+spelled_some (keyword.RabitProof) = refl
 
 decimal_some : (n : ℕ) → is_short n ≡ true → (length (decimal n) == 0) ≡ false
 decimal_some n e =

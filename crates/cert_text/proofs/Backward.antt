@@ -1,6 +1,7 @@
 use Rattle.std.proofs.Common.{◌≡◌, refl, sym, ap, subst, ◌∙◌, append_assoc, append-nil, eq-eqb, ⊎_elim, nat_lt, decimal, ℕ, zero, suc, ◌+◌, List, [], ◌∷◌, ◌++◌, length, Bool, true, false, ◌&&◌, Ok, Err, cond, ◌==◌}
 use Rattle.auto_core.specs.declared.parts.Mode.{Mode}
 use Rattle.auto_core.specs.declared.parts.Mode.TheVariants as mode
+use Rattle.auto_core.specs.declared.parts.Lasso.{Lasso}
 use Rattle.auto_core.specs.declared.parts.Origin.{Origin}
 use Rattle.cert_value.specs.declared.keywords.Keyword.TheVariants as keyword
 use Rattle.cert_line.specs.declared.shapes.Tail.TheVariants as tail
@@ -32,9 +33,9 @@ use Rattle.cert_line.specs.declared.heads.Way.{Way}
 use Rattle.cert_line.specs.declared.heads.Way.TheVariants as way
 use Rattle.cert_value.specs.Text.{Line, spelled, numbers, letters_tokens, each, row_lines, block_lines, rank_row_lines, rank_block_lines, classes_line, first_step_lines, second_step_lines, mark_tokens, origin_line, origin_lines, element_lines, step_lines, first_lines, second_lines, elements_line, closed_lines, limit_lines, body_lines, form_of, first_line, sizes_line, end_line, cert_lines, gone_numbers}
 use Rattle.cert_value.specs.declared.types.GoneBy.{GoneBy}
-use Rattle.cert_value.specs.WellFormed.{is_version, are_letters, rank_key, blocks_due, is_live, has_some, is_short, are_short, ascend, is_row, are_rows, is_block, is_rank_row, are_rank_rows, is_rank_block, are_gone, are_classes, is_first_step, is_second_step, is_origin, is_element, is_step_of, are_steps, are_logs, is_body, has_text}
+use Rattle.cert_value.specs.WellFormed.{is_version, are_letters, rank_key, blocks_due, is_live, has_some, is_short, are_short, ascend, is_row, are_rows, is_block, is_rank_row, are_rank_rows, is_rank_block, are_gone, are_classes, is_first_step, is_second_step, is_origin, is_element, is_step_of, are_steps, are_logs, is_lasso, is_body, has_text}
 use Rattle.cert_line.specs.Lines.{Said, word_in, number_in, numbers_in, ascending_in, sizes_in, heading_in, row_in, rank_row_in, gone_by_in, first_head_in, second_head_in, origin_in, element_in, step_in}
-use Rattle.cert_text.specs.Grammar.{On, Read, Stopped, Then, ReadOutcome, after, next_line, read_rows, read_block, read_rank_rows, read_rank_block, read_blocks, read_classes, read_first_rest, read_first_steps, read_grounds, read_second_rest, read_second_steps, read_elements, read_steps, read_origins, read_cover, read_all_elements, read_closed, read_all_origins, read_list_part, read_first_log, read_second_log, read_turn, read_lasso, read_word, yes_of, list_of, read_evidence, read_after_first, read_logs, read_body, is_bare, finish, cert_of, read_end, read_rest, read_sizes, read_lines}
+use Rattle.cert_text.specs.Grammar.{On, Read, Stopped, LinesOutcome, Then, after, next_line, read_rows, read_block, read_rank_rows, read_rank_block, read_blocks, read_classes, read_first_rest, read_first_steps, read_grounds, read_second_rest, read_second_steps, read_elements, read_steps, read_origins, read_cover, read_all_elements, read_closed, read_all_origins, read_list_part, read_first_log, read_second_log, read_turn, read_lasso, read_word, yes_of, list_of, read_evidence, read_after_first, read_logs, read_body, is_bare, finish, cert_of, read_end, read_rest, read_sizes, read_lines}
 use Rattle.std.specs.List.{list_all}
 use Rattle.std.proofs.lemmas.Bool.{and_parts, and_from, cond-true, cond-false, cases_Bool}
 use Rattle.cert_line.proofs.LineFacts.{word_bw, number_bw, numbers_bw, sorted_bw, sizes_bw, row_bw, rank_row_bw, gone_bw, step_bw, numbers_some}
@@ -117,7 +118,7 @@ block_bw v next ls c e =
 abbrev pub AreRankRows : ℕ → ℕ → List ℕ → List RankRow → Type 0
 AreRankRows letters n key rows = (length rows ≡ n) × (are_rank_rows letters key rows ≡ true)
 
-pub rank_rows_bw : (letters n : ℕ) (key : List ℕ) (acc : List RankRow) (next : Then (List RankRow)) (ls : List Line) (c : Cert)
+pub rank_rows_bw : {C : Type 0} (letters n : ℕ) (key : List ℕ) (acc : List RankRow) (next : On C (List RankRow)) (ls : List Line) (c : C)
     → read_rank_rows letters n key acc next ls ≡ Read c
     → Took (AreRankRows letters n key) (λ rows. each rank_row_lines rows) (λ rows rest. next (acc ++ rows) rest) ls c
 rank_rows_bw letters zero key acc next ls c e =
@@ -137,7 +138,7 @@ rank_rows_bw letters (suc n) key acc next ls c e =
 abbrev pub IsRankBlock : ℕ → RankBlock → Type 0
 IsRankBlock letters b = is_rank_block letters b ≡ true
 
-pub rank_block_bw : (letters : ℕ) (next : Then RankBlock) (ls : List Line) (c : Cert) → read_rank_block letters next ls ≡ Read c
+pub rank_block_bw : {C : Type 0} (letters : ℕ) (next : On C RankBlock) (ls : List Line) (c : C) → read_rank_block letters next ls ≡ Read c
     → Took (IsRankBlock letters) rank_block_lines next ls c
 rank_block_bw letters next ls c e =
     let l = line_bw (number_in keyword.Rel) (λ n. read_rank_rows letters n [] [] (λ rows. next (record { rows = rows }))) ls c e in
@@ -154,12 +155,12 @@ rank_block_bw letters next ls c e =
     }
 
 -- That many items, each of them taken off by `one`, when `read` does that for one after the other.
-many_bw : {A : Type 0} (is : A → Bool) (lines : A → List Line) (one : Then A → List Line → ReadOutcome)
-    → ((next : Then A) (ls : List Line) (c : Cert) → one next ls ≡ Read c → Took (λ x. is x ≡ true) lines next ls c)
-    → (read : ℕ → List A → Then (List A) → List Line → ReadOutcome)
-    → ((acc : List A) (next : Then (List A)) (ls : List Line) → read zero acc next ls ≡ next acc ls)
-    → ((n : ℕ) (acc : List A) (next : Then (List A)) (ls : List Line) → read (suc n) acc next ls ≡ one (λ x. read n (acc ++ x ∷ []) next) ls)
-    → (n : ℕ) (acc : List A) (next : Then (List A)) (ls : List Line) (c : Cert) → read n acc next ls ≡ Read c
+many_bw : {C A : Type 0} (is : A → Bool) (lines : A → List Line) (one : On C A → List Line → LinesOutcome C)
+    → ((next : On C A) (ls : List Line) (c : C) → one next ls ≡ Read c → Took (λ x. is x ≡ true) lines next ls c)
+    → (read : ℕ → List A → On C (List A) → List Line → LinesOutcome C)
+    → ((acc : List A) (next : On C (List A)) (ls : List Line) → read zero acc next ls ≡ next acc ls)
+    → ((n : ℕ) (acc : List A) (next : On C (List A)) (ls : List Line) → read (suc n) acc next ls ≡ one (λ x. read n (acc ++ x ∷ []) next) ls)
+    → (n : ℕ) (acc : List A) (next : On C (List A)) (ls : List Line) (c : C) → read n acc next ls ≡ Read c
     → Took (λ xs. (length xs ≡ n) × (list_all is xs ≡ true)) (λ xs. each lines xs) (λ xs rest. next (acc ++ xs) rest) ls c
 many_bw is lines one one_bw read none some zero acc next ls c e =
     record { item = []; rest = ls; fine = (refl, refl); cut = refl; on = ap (λ x. next x ls) (append-nil acc) ∙ sym (none acc next ls) ∙ e }
@@ -177,7 +178,7 @@ many_bw is lines one one_bw read none some (suc n) acc next ls c e =
 abbrev pub AreBlocks : ℕ → List RelBlock → Type 0
 AreBlocks n bs = (length bs ≡ n) × (list_all is_block bs ≡ true)
 
-pub blocks_bw : (v : ℕ) (n : ℕ) (acc : List RelBlock) (next : Then (List RelBlock)) (ls : List Line) (c : Cert) → read_blocks v n acc next ls ≡ Read c
+pub blocks_bw : {C : Type 0} (v : ℕ) (n : ℕ) (acc : List RelBlock) (next : On C (List RelBlock)) (ls : List Line) (c : C) → read_blocks v n acc next ls ≡ Read c
     → Took (AreBlocks n) (λ bs. each (block_lines v) bs) (λ bs rest. next (acc ++ bs) rest) ls c
 blocks_bw v n acc next ls c e =
     many_bw is_block (block_lines v) (read_block v) (block_bw v) (read_blocks v) (λ acc next ls. refl) (λ n acc next ls. refl) n acc next ls c e
@@ -185,7 +186,7 @@ blocks_bw v n acc next ls c e =
 abbrev pub AreClasses : List ℕ → Type 0
 AreClasses classes = are_classes classes ≡ true
 
-pub classes_bw : (next : Then (List ℕ)) (ls : List Line) (c : Cert) → read_classes next ls ≡ Read c
+pub classes_bw : {C : Type 0} (next : On C (List ℕ)) (ls : List Line) (c : C) → read_classes next ls ≡ Read c
     → Took AreClasses (λ classes. classes_line classes ∷ []) next ls c
 classes_bw next ls c e =
     let l = line_bw (numbers_in keyword.Classes tail.SomeNumbers) next ls c e in
@@ -202,7 +203,7 @@ classes_bw next ls c e =
 abbrev pub IsFirst : FirstStep → Type 0
 IsFirst s = is_first_step s ≡ true
 
-first_rest_bw : (v : ℕ) (h : FirstHead) (line : Line) (after : List Line) (next : Then FirstStep) (c : Cert) → is_first_head h ≡ true
+first_rest_bw : {C : Type 0} (v : ℕ) (h : FirstHead) (line : Line) (after : List Line) (next : On C FirstStep) (c : C) → is_first_head h ≡ true
     → line ≡ first_head_line h → read_first_rest v h next after ≡ Read c → Took IsFirst (first_step_lines v) next (line ∷ after) c
 first_rest_bw v (first_head.Trim kept) line after next c f g e =
     record { item = first.Trim kept; rest = after; fine = f; cut = ap (λ x. x ∷ after) g; on = e }
@@ -234,7 +235,7 @@ first_rest_bw v (first_head.Cut pair look) line after next c f g e =
       on = t.on;
     }
 
-pub first_step_bw : (v : ℕ) (next : Then FirstStep) (ls : List Line) (c : Cert)
+pub first_step_bw : {C : Type 0} (v : ℕ) (next : On C FirstStep) (ls : List Line) (c : C)
     → next_line first_head_in (λ head. read_first_rest v head next) ls ≡ Read c → Took IsFirst (first_step_lines v) next ls c
 first_step_bw v next ls c e =
     let l = line_bw first_head_in (λ head. read_first_rest v head next) ls c e in
@@ -245,7 +246,7 @@ first_step_bw v next ls c e =
 abbrev pub AreFirst : ℕ → List FirstStep → Type 0
 AreFirst n ss = (length ss ≡ n) × (list_all is_first_step ss ≡ true)
 
-pub first_steps_bw : (v : ℕ) (n : ℕ) (acc : List FirstStep) (next : Then (List FirstStep)) (ls : List Line) (c : Cert)
+pub first_steps_bw : {C : Type 0} (v : ℕ) (n : ℕ) (acc : List FirstStep) (next : On C (List FirstStep)) (ls : List Line) (c : C)
     → read_first_steps v n acc next ls ≡ Read c
     → Took (AreFirst n) (λ ss. each (first_step_lines v) ss) (λ ss rest. next (acc ++ ss) rest) ls c
 first_steps_bw v n acc next ls c e =
@@ -255,7 +256,7 @@ first_steps_bw v n acc next ls c e =
 abbrev pub IsFirstLog : List FirstStep → Type 0
 IsFirstLog ss = (is_short (length ss) ≡ true) × (list_all is_first_step ss ≡ true)
 
-pub first_log_bw : (v : ℕ) (next : Then (List FirstStep)) (ls : List Line) (c : Cert) → read_first_log v next ls ≡ Read c
+pub first_log_bw : {C : Type 0} (v : ℕ) (next : On C (List FirstStep)) (ls : List Line) (c : C) → read_first_log v next ls ≡ Read c
     → Took IsFirstLog (first_lines v) next ls c
 first_log_bw v next ls c e =
     let l = line_bw (number_in keyword.Log1) (λ n. read_first_steps v n [] next) ls c e in
@@ -274,7 +275,7 @@ first_log_bw v next ls c e =
 abbrev pub IsSecond : ℕ → Mode → SecondStep → Type 0
 IsSecond v m s = is_second_step v m s ≡ true
 
-merge_bw : (v : ℕ) (m : Mode) (by : Way) (classes : List ℕ) (after : List Line) (next : Then SecondStep) (c : Cert) → is_way v m by ≡ true
+merge_bw : {C : Type 0} (v : ℕ) (m : Mode) (by : Way) (classes : List ℕ) (after : List Line) (next : On C SecondStep) (c : C) → is_way v m by ≡ true
     → are_classes classes ≡ true → read_grounds v by classes next after ≡ Read c
     → Took (IsSecond v m) (second_step_lines v) next ((spelled keyword.Merge ∷ way_tokens v by) ∷ classes_line classes ∷ after) c
 merge_bw v m (way.Forward look) classes after next c w a e =
@@ -306,7 +307,7 @@ merge_bw v (mode.Buchi) (way.Delayed letters) classes after next c w a e =
     }
 merge_bw v (mode.Finite) (way.Delayed letters) classes after next c w a e = absurd (cc)
 
-second_rest_bw : (v : ℕ) (m : Mode) (h : SecondHead) (line : Line) (after : List Line) (next : Then SecondStep) (c : Cert) → is_second_head v m h ≡ true
+second_rest_bw : {C : Type 0} (v : ℕ) (m : Mode) (h : SecondHead) (line : Line) (after : List Line) (next : On C SecondStep) (c : C) → is_second_head v m h ≡ true
     → line ≡ second_head_line v h → read_second_rest v h next after ≡ Read c → Took (IsSecond v m) (second_step_lines v) next (line ∷ after) c
 second_rest_bw v m (second_head.Trim kept) line after next c f g e =
     record { item = second.Trim kept; rest = after; fine = f; cut = ap (λ x. x ∷ after) g; on = e }
@@ -331,7 +332,7 @@ second_rest_bw v m (second_head.Cut) line after next c f g e =
       on = l.on;
     }
 
-pub second_step_bw : (v : ℕ) (m : Mode) (next : Then SecondStep) (ls : List Line) (c : Cert)
+pub second_step_bw : {C : Type 0} (v : ℕ) (m : Mode) (next : On C SecondStep) (ls : List Line) (c : C)
     → next_line (second_head_in v m) (λ head. read_second_rest v head next) ls ≡ Read c → Took (IsSecond v m) (second_step_lines v) next ls c
 second_step_bw v m next ls c e =
     let l = line_bw (second_head_in v m) (λ head. read_second_rest v head next) ls c e in
@@ -342,7 +343,7 @@ second_step_bw v m next ls c e =
 abbrev pub AreSecond : ℕ → Mode → ℕ → List SecondStep → Type 0
 AreSecond v m n ss = (length ss ≡ n) × (list_all (is_second_step v m) ss ≡ true)
 
-pub second_steps_bw : (v : ℕ) (m : Mode) (n : ℕ) (acc : List SecondStep) (next : Then (List SecondStep)) (ls : List Line) (c : Cert)
+pub second_steps_bw : {C : Type 0} (v : ℕ) (m : Mode) (n : ℕ) (acc : List SecondStep) (next : On C (List SecondStep)) (ls : List Line) (c : C)
     → read_second_steps v m n acc next ls ≡ Read c
     → Took (AreSecond v m n) (λ ss. each (second_step_lines v) ss) (λ ss rest. next (acc ++ ss) rest) ls c
 second_steps_bw v m n acc next ls c e =
@@ -352,7 +353,7 @@ second_steps_bw v m n acc next ls c e =
 abbrev pub IsSecondLog : ℕ → Mode → List SecondStep → Type 0
 IsSecondLog v m ss = (is_short (length ss) ≡ true) × (list_all (is_second_step v m) ss ≡ true)
 
-pub second_log_bw : (v : ℕ) (m : Mode) (next : Then (List SecondStep)) (ls : List Line) (c : Cert) → read_second_log v m next ls ≡ Read c
+pub second_log_bw : {C : Type 0} (v : ℕ) (m : Mode) (next : On C (List SecondStep)) (ls : List Line) (c : C) → read_second_log v m next ls ≡ Read c
     → Took (IsSecondLog v m) (second_lines v) next ls c
 second_log_bw v m next ls c e =
     let l = line_bw (number_in keyword.Log2) (λ n. read_second_steps v m n [] next) ls c e in
@@ -368,9 +369,9 @@ second_log_bw v m next ls c e =
     }
 
 -- Elements, each of them on a line.
-own_line_bw : {A : Type 0} (is : A → Bool) (line_of : A → Line) (said : Line → Said A)
+own_line_bw : {C A : Type 0} (is : A → Bool) (line_of : A → Line) (said : Line → Said A)
     → ((line : Line) (x : A) → said line ≡ Ok x → (is x ≡ true) × (line ≡ line_of x))
-    → (next : Then A) (ls : List Line) (c : Cert) → next_line said next ls ≡ Read c → Took (λ x. is x ≡ true) (λ x. line_of x ∷ []) next ls c
+    → (next : On C A) (ls : List Line) (c : C) → next_line said next ls ≡ Read c → Took (λ x. is x ≡ true) (λ x. line_of x ∷ []) next ls c
 own_line_bw is line_of said told next ls c e =
     let l = line_bw said next ls c e in
     let f = told l.line l.item l.told in
@@ -379,7 +380,7 @@ own_line_bw is line_of said told next ls c e =
 abbrev pub AreElements : Mode → ℕ → List Element → Type 0
 AreElements m n es = (length es ≡ n) × (list_all (is_element m) es ≡ true)
 
-pub elements_bw : (m : Mode) (n : ℕ) (acc : List Element) (next : Then (List Element)) (ls : List Line) (c : Cert)
+pub elements_bw : {C : Type 0} (m : Mode) (n : ℕ) (acc : List Element) (next : On C (List Element)) (ls : List Line) (c : C)
     → read_elements m n acc next ls ≡ Read c
     → Took (AreElements m n) (λ es. each element_lines es) (λ es rest. next (acc ++ es) rest) ls c
 elements_bw m n acc next ls c e =
@@ -398,7 +399,7 @@ origins_bw m n acc next ls c e =
     (read_origins m) (λ acc next ls. refl) (λ n acc next ls. refl) n acc next ls c e
 
 -- The lines of live elements.
-abbrev pub TookSteps : ℕ → List Element → List StepLine → Then (List StepLine) → List Line → Cert → Type 0
+abbrev pub TookSteps : {C : Type 0} → ℕ → List Element → List StepLine → On C (List StepLine) → List Line → C → Type 0
 TookSteps n es acc next ls c =
     Took (λ ss. are_steps n es ss ≡ true) (λ ss. each step_lines ss) (λ ss rest. next (acc ++ ss) rest) ls c
 
@@ -412,7 +413,7 @@ dead_steps e n es [] d h = cond-false (is_live e.mark) false (are_steps (n + 1) 
 dead_steps e n es (s ∷ ss) d h =
     cond-false (is_live e.mark) (is_step_of n s && are_steps (n + 1) es ss) (are_steps (n + 1) es (s ∷ ss)) d ∙ h
 
-pub steps_bw : (n : ℕ) (es : List Element) (acc : List StepLine) (next : Then (List StepLine)) (ls : List Line) (c : Cert)
+pub steps_bw : {C : Type 0} (n : ℕ) (es : List Element) (acc : List StepLine) (next : On C (List StepLine)) (ls : List Line) (c : C)
     → read_steps n es acc next ls ≡ Read c → TookSteps n es acc next ls c
 steps_bw n [] acc next ls c e =
     record { item = []; rest = ls; fine = refl; cut = refl; on = ap (λ x. next x ls) (append-nil acc) ∙ e }
@@ -451,7 +452,7 @@ pub record IsClosed (m : Mode) (k : Closed) : Type 0 where
   pub cover : are_short k.cover ≡ true
   pub steps : are_steps 0 k.elements k.steps ≡ true
 
-pub closed_bw : (v : ℕ) (m : Mode) (next : Then Closed) (ls : List Line) (c : Cert) → read_closed v m next ls ≡ Read c
+pub closed_bw : {C : Type 0} (v : ℕ) (m : Mode) (next : On C Closed) (ls : List Line) (c : C) → read_closed v m next ls ≡ Read c
     → Took (IsClosed m) (λ k. block_lines v k.order ++ closed_lines k.elements k.cover k.steps) next ls c
 closed_bw v m next ls c e =
     let b = block_bw v (λ order. read_all_elements m order next) ls c e in
@@ -511,6 +512,27 @@ list_part_bw m next ls c e =
       on = es.on;
     }
 
+-- A lasso.
+abbrev pub IsLasso : Lasso → Type 0
+IsLasso lasso = is_lasso lasso ≡ true
+
+pub lasso_bw : {C : Type 0} (next : On C Lasso) (ls : List Line) (c : C) → read_lasso next ls ≡ Read c
+    → Took IsLasso (λ lasso. (spelled keyword.Prefix ∷ numbers lasso.prefix) ∷ (spelled keyword.Loop ∷ numbers lasso.turn) ∷ []) next ls c
+lasso_bw next ls c e =
+    let p = line_bw (numbers_in keyword.Prefix tail.Numbers) (λ prefix. read_turn prefix next) ls c e in
+    let pf = numbers_bw keyword.Prefix tail.Numbers p.line p.item p.told in
+    let k = λ (turn : List ℕ). next (record { prefix = p.item; turn = turn }) in
+    let t = line_bw (numbers_in keyword.Loop tail.SomeNumbers) k p.rest c p.on in
+    let tf = numbers_bw keyword.Loop tail.SomeNumbers t.line t.item t.told in
+    record {
+      item = record { prefix = p.item; turn = t.item };
+      rest = t.rest;
+      fine = and_from (are_short p.item) _ pf.0 (and_from (are_short t.item) (has_some t.item) tf.0 (numbers_some t.item tf.1));
+      cut = p.cut ∙ ap (λ x. x ∷ p.rest) pf.2
+          ∙ ap (λ y. (spelled keyword.Prefix ∷ numbers p.item) ∷ y) (t.cut ∙ ap (λ x. x ∷ t.rest) tf.2);
+      on = t.on;
+    }
+
 -- The body.
 abbrev pub IsBodyOf : ℕ → Mode → Form → Body → Type 0
 IsBodyOf v m a b = (is_body v m b ≡ true) × (form_of b ≡ a)
@@ -568,21 +590,10 @@ list_bw v m next ls c e =
       on = k.on;
     }
 
-lasso_bw : (v : ℕ) (next : Then Body) (ls : List Line) (c : Cert) → read_lasso next ls ≡ Read c → TookBody v mode.Buchi form.No next ls c
-lasso_bw v next ls c e =
-    let p = line_bw (numbers_in keyword.Prefix tail.Numbers) (λ prefix. read_turn prefix next) ls c e in
-    let pf = numbers_bw keyword.Prefix tail.Numbers p.line p.item p.told in
-    let k = λ (turn : List ℕ). next (body.NoLasso (record { prefix = p.item; turn = turn })) in
-    let t = line_bw (numbers_in keyword.Loop tail.SomeNumbers) k p.rest c p.on in
-    let tf = numbers_bw keyword.Loop tail.SomeNumbers t.line t.item t.told in
-    record {
-      item = body.NoLasso (record { prefix = p.item; turn = t.item });
-      rest = t.rest;
-      fine = (and_from (are_short p.item) _ pf.0 (and_from (are_short t.item) (has_some t.item) tf.0 (numbers_some t.item tf.1)), refl);
-      cut = p.cut ∙ ap (λ x. x ∷ p.rest) pf.2
-          ∙ ap (λ y. (spelled keyword.Prefix ∷ numbers p.item) ∷ y) (t.cut ∙ ap (λ x. x ∷ t.rest) tf.2);
-      on = t.on;
-    }
+no_lasso_bw : (v : ℕ) (next : Then Body) (ls : List Line) (c : Cert) → read_lasso (λ lasso. next (body.NoLasso lasso)) ls ≡ Read c → TookBody v mode.Buchi form.No next ls c
+no_lasso_bw v next ls c e =
+    let t = lasso_bw (λ lasso. next (body.NoLasso lasso)) ls c e in
+    record { item = body.NoLasso t.item; rest = t.rest; fine = (t.fine, refl); cut = t.cut; on = t.on }
 
 word_body_bw : (v : ℕ) (next : Then Body) (ls : List Line) (c : Cert) → read_word next ls ≡ Read c → TookBody v mode.Finite form.No next ls c
 word_body_bw v next ls c e =
@@ -598,7 +609,7 @@ word_body_bw v next ls c e =
 
 pub body_bw : (v : ℕ) (m : Mode) (a : Form) (next : Then Body) (ls : List Line) (c : Cert) → read_body v m a next ls ≡ Read c → TookBody v m a next ls c
 body_bw v m (form.Yes) next ls c e = yes_bw v m next ls c e
-body_bw v (mode.Buchi) (form.No) next ls c e = lasso_bw v next ls c e
+body_bw v (mode.Buchi) (form.No) next ls c e = no_lasso_bw v next ls c e
 body_bw v (mode.Finite) (form.No) next ls c e = word_body_bw v next ls c e
 body_bw v m (form.List) next ls c e = list_bw v m next ls c e
 

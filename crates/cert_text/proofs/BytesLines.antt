@@ -64,6 +64,12 @@ spelled_plain (keyword.RabitCross) = refl
 spelled_plain (keyword.Two) = refl
 spelled_plain (keyword.Yes) = refl
 spelled_plain (keyword.Word) = refl
+spelled_plain (keyword.Accepting) = refl
+spelled_plain (keyword.Closed) = refl
+spelled_plain (keyword.Letters) = refl
+spelled_plain (keyword.Map) = refl
+spelled_plain (keyword.Product) = refl
+spelled_plain (keyword.RabitProof) = refl
 
 digit_plain : (d : ℕ) → d < 10 → is_plain (digit_glyph false d) ≡ true
 digit_plain d h =

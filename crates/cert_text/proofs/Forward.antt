@@ -1,6 +1,7 @@
 use Rattle.std.proofs.Common.{◌≡◌, refl, sym, ap, ◌∙◌, append_assoc, append-nil, eqb-true, nat_lt, decimal, ℕ, ◌+◌, List, [], ◌∷◌, ◌++◌, length, Bool, true, false, ◌&&◌, Ok, cond, ◌==◌}
 use Rattle.auto_core.specs.declared.parts.Mode.{Mode}
 use Rattle.auto_core.specs.declared.parts.Mode.TheVariants as mode
+use Rattle.auto_core.specs.declared.parts.Lasso.{Lasso}
 use Rattle.auto_core.specs.declared.parts.Origin.{Origin}
 use Rattle.cert_value.specs.declared.keywords.Keyword.TheVariants as keyword
 use Rattle.cert_line.specs.declared.shapes.Tail.TheVariants as tail
@@ -29,9 +30,9 @@ use Rattle.cert_line.specs.declared.heads.Way.{Way}
 use Rattle.cert_line.specs.declared.heads.Way.TheVariants as way
 use Rattle.cert_value.specs.Text.{Line, spelled, numbers, row_numbers, each, row_lines, block_lines, rank_row_lines, rank_block_lines, classes_line, first_step_lines, merge_lines, second_step_lines, origin_line, origin_lines, mark_tokens, element_lines, step_lines, first_lines, second_lines, elements_line, closed_lines, limit_lines, body_lines, form_of, first_line, sizes_line, end_line, cert_lines, gone_numbers, ranked_numbers}
 use Rattle.cert_value.specs.declared.types.Grounds.{Grounds}
-use Rattle.cert_value.specs.WellFormed.{is_version, are_letters, rank_key, blocks_due, is_live, has_some, is_short, are_short, ascend, is_row, are_rows, is_block, is_rank_row, are_rank_rows, is_rank_block, are_gone, are_classes, is_first_step, are_grounds, is_second_step, is_origin, is_element, is_step_of, are_steps, are_logs, is_body, has_text}
+use Rattle.cert_value.specs.WellFormed.{is_version, are_letters, rank_key, blocks_due, is_live, has_some, is_short, are_short, ascend, is_row, are_rows, is_block, is_rank_row, are_rank_rows, is_rank_block, are_gone, are_classes, is_first_step, are_grounds, is_second_step, is_origin, is_element, is_step_of, are_steps, are_logs, is_lasso, is_body, has_text}
 use Rattle.cert_line.specs.Lines.{Said, word_in, number_in, numbers_in, ascending_in, sizes_in, heading_in, row_in, rank_row_in, gone_by_in, first_head_in, second_head_in, origin_in, element_in, step_in}
-use Rattle.cert_text.specs.Grammar.{On, Then, after, next_line, read_rows, read_block, read_rank_rows, read_rank_block, read_blocks, read_classes, read_first_rest, read_first_steps, read_grounds, read_second_rest, read_second_steps, read_elements, read_steps, read_origins, read_cover, read_all_elements, read_closed, read_all_origins, read_list_part, read_first_log, read_second_log, read_turn, yes_of, list_of, read_evidence, read_after_first, read_body, finish, cert_of, read_end, read_rest, read_sizes, read_lines}
+use Rattle.cert_text.specs.Grammar.{On, Then, after, next_line, read_rows, read_block, read_rank_rows, read_rank_block, read_blocks, read_classes, read_first_rest, read_first_steps, read_grounds, read_second_rest, read_second_steps, read_elements, read_steps, read_origins, read_cover, read_all_elements, read_closed, read_all_origins, read_list_part, read_first_log, read_second_log, read_turn, read_lasso, yes_of, list_of, read_evidence, read_after_first, read_body, finish, cert_of, read_end, read_rest, read_sizes, read_lines}
 use Rattle.std.specs.List.{list_all}
 use Rattle.std.proofs.lemmas.Bool.{and_parts, and_from}
 use Rattle.cert_line.proofs.PairLemmas.{some_cons}
@@ -70,7 +71,7 @@ block_fw v b next rest e h =
     (number_fw keyword.Rel (length b.rows) a.0) (some_append (each (row_lines v) b.rows) rest h)
     ∙ rows_fw v b.rows [] 0 (λ rows. next (record { rows = rows })) rest a.1 h
 
-pub rank_rows_fw : (letters : ℕ) (rows acc : List RankRow) (key : List ℕ) (next : Then (List RankRow)) (rest : List Line)
+pub rank_rows_fw : {C : Type 0} (letters : ℕ) (rows acc : List RankRow) (key : List ℕ) (next : On C (List RankRow)) (rest : List Line)
     → are_rank_rows letters key rows ≡ true → has_some rest ≡ true
     → read_rank_rows letters (length rows) key acc next (each rank_row_lines rows ++ rest) ≡ next (acc ++ rows) rest
 rank_rows_fw letters [] acc key next rest e h = ap (λ x. next x rest) (sym (append-nil acc))
@@ -82,7 +83,7 @@ rank_rows_fw letters (row ∷ rows) acc key next rest e h =
     ∙ rank_rows_fw letters rows (acc ++ row ∷ []) (rank_key row) next rest a.1 h
     ∙ ap (λ x. next x rest) (append_assoc acc (row ∷ []) rows)
 
-pub rank_block_fw : (letters : ℕ) (b : RankBlock) (next : Then RankBlock) (rest : List Line) → is_rank_block letters b ≡ true → has_some rest ≡ true
+pub rank_block_fw : {C : Type 0} (letters : ℕ) (b : RankBlock) (next : On C RankBlock) (rest : List Line) → is_rank_block letters b ≡ true → has_some rest ≡ true
     → read_rank_block letters next (rank_block_lines b ++ rest) ≡ next b rest
 rank_block_fw letters b next rest e h =
     let a = and_parts (is_short (length b.rows)) _ e in
@@ -96,18 +97,18 @@ pub each_cons : {A : Type 0} (f : A → List Line) (x : A) (xs : List A) (rest :
     → each f (x ∷ xs) ++ rest ≡ f x ++ (each f xs ++ rest)
 each_cons f x xs rest = append_assoc (f x) (each f xs) rest
 
-pub blocks_fw : (v : ℕ) (bs acc : List RelBlock) (next : Then (List RelBlock)) (rest : List Line) → list_all is_block bs ≡ true
+pub blocks_fw : {C : Type 0} (v : ℕ) (bs acc : List RelBlock) (next : On C (List RelBlock)) (rest : List Line) → list_all is_block bs ≡ true
     → has_some rest ≡ true → read_blocks v (length bs) acc next (each (block_lines v) bs ++ rest) ≡ next (acc ++ bs) rest
 blocks_fw v [] acc next rest e h = ap (λ x. next x rest) (sym (append-nil acc))
 blocks_fw v (b ∷ bs) acc next rest e h =
     let a = and_parts (is_block b) (list_all is_block bs) e in
-    let k : Then RelBlock = λ block. read_blocks v (length bs) (acc ++ block ∷ []) next in
+    let k = λ (block : RelBlock). read_blocks v (length bs) (acc ++ block ∷ []) next in
     ap (λ ls. read_block v k ls) (each_cons (block_lines v) b bs rest)
     ∙ block_fw v b k (each (block_lines v) bs ++ rest) a.0 (some_append (each (block_lines v) bs) rest h)
     ∙ blocks_fw v bs (acc ++ b ∷ []) next rest a.1 h
     ∙ ap (λ x. next x rest) (append_assoc acc (b ∷ []) bs)
 
-pub classes_fw : (classes : List ℕ) (next : Then (List ℕ)) (rest : List Line) → are_classes classes ≡ true → has_some rest ≡ true
+pub classes_fw : {C : Type 0} (classes : List ℕ) (next : On C (List ℕ)) (rest : List Line) → are_classes classes ≡ true → has_some rest ≡ true
     → read_classes next (classes_line classes ∷ rest) ≡ next classes rest
 classes_fw classes next rest e h =
     let a = and_parts (are_short classes) (has_some classes) e in
@@ -115,7 +116,7 @@ classes_fw classes next rest e h =
     (numbers_fw keyword.Classes tail.SomeNumbers classes a.0 (some_numbers classes a.1)) h
 
 -- Steps of the first log.
-pub first_step_fw : (v : ℕ) (s : FirstStep) (next : Then FirstStep) (rest : List Line) → is_first_step s ≡ true → has_some rest ≡ true
+pub first_step_fw : {C : Type 0} (v : ℕ) (s : FirstStep) (next : On C FirstStep) (rest : List Line) → is_first_step s ≡ true → has_some rest ≡ true
     → next_line first_head_in (λ head. read_first_rest v head next) (first_step_lines v s ++ rest) ≡ next s rest
 first_step_fw v (first.Trim kept) next rest e h =
     line_fw first_head_in (λ head. read_first_rest v head next) (spelled keyword.Trim ∷ numbers kept) (first_head.Trim kept) rest
@@ -130,7 +131,7 @@ first_step_fw v (first.Cut pair look gone blocks) next rest e h =
     let c = and_parts (are_gone gone) _ b.1 in
     let d = and_parts (length blocks == blocks_due pair) (list_all is_block blocks) c.1 in
     let gone_line = spelled keyword.Gone ∷ numbers (gone_numbers gone) in
-    let k : Then (List RelBlock) = λ blocks. next (first.Cut pair look gone blocks) in
+    let k = λ (blocks : List RelBlock). next (first.Cut pair look gone blocks) in
     let due : length blocks ≡ blocks_due pair = eqb-true (length blocks) (blocks_due pair) d.0 in
     line_fw first_head_in (λ head. read_first_rest v head next) (spelled keyword.Cut ∷ decimal pair ∷ decimal look ∷ [])
     (first_head.Cut pair look) (gone_line ∷ (each (block_lines v) blocks ++ rest))
@@ -140,18 +141,18 @@ first_step_fw v (first.Cut pair look gone blocks) next rest e h =
     ∙ ap (λ n. read_blocks v n [] k (each (block_lines v) blocks ++ rest)) (sym due)
     ∙ blocks_fw v blocks [] k rest d.1 h
 
-pub first_steps_fw : (v : ℕ) (ss acc : List FirstStep) (next : Then (List FirstStep)) (rest : List Line) → list_all is_first_step ss ≡ true
+pub first_steps_fw : {C : Type 0} (v : ℕ) (ss acc : List FirstStep) (next : On C (List FirstStep)) (rest : List Line) → list_all is_first_step ss ≡ true
     → has_some rest ≡ true → read_first_steps v (length ss) acc next (each (first_step_lines v) ss ++ rest) ≡ next (acc ++ ss) rest
 first_steps_fw v [] acc next rest e h = ap (λ x. next x rest) (sym (append-nil acc))
 first_steps_fw v (s ∷ ss) acc next rest e h =
     let a = and_parts (is_first_step s) (list_all is_first_step ss) e in
-    let k : Then FirstStep = λ step. read_first_steps v (length ss) (acc ++ step ∷ []) next in
+    let k = λ (step : FirstStep). read_first_steps v (length ss) (acc ++ step ∷ []) next in
     ap (λ ls. next_line first_head_in (λ head. read_first_rest v head k) ls) (each_cons (first_step_lines v) s ss rest)
     ∙ first_step_fw v s k (each (first_step_lines v) ss ++ rest) a.0 (some_append (each (first_step_lines v) ss) rest h)
     ∙ first_steps_fw v ss (acc ++ s ∷ []) next rest a.1 h
     ∙ ap (λ x. next x rest) (append_assoc acc (s ∷ []) ss)
 
-pub first_log_fw : (v : ℕ) (ss : List FirstStep) (next : Then (List FirstStep)) (rest : List Line) → is_short (length ss) ≡ true
+pub first_log_fw : {C : Type 0} (v : ℕ) (ss : List FirstStep) (next : On C (List FirstStep)) (rest : List Line) → is_short (length ss) ≡ true
     → list_all is_first_step ss ≡ true → has_some rest ≡ true → read_first_log v next (first_lines v ss ++ rest) ≡ next ss rest
 first_log_fw v ss next rest s e h =
     line_fw (number_in keyword.Log1) (λ n. read_first_steps v n [] next) (spelled keyword.Log1 ∷ decimal (length ss) ∷ []) (length ss)
@@ -159,7 +160,7 @@ first_log_fw v ss next rest s e h =
     ∙ first_steps_fw v ss [] next rest e h
 
 -- Steps of the second log.
-merge_head_fw : (v : ℕ) (m : Mode) (by : Way) (classes : List ℕ) (next : Then SecondStep) (rest : List Line) → is_way v m by ≡ true
+merge_head_fw : {C : Type 0} (v : ℕ) (m : Mode) (by : Way) (classes : List ℕ) (next : On C SecondStep) (rest : List Line) → is_way v m by ≡ true
     → are_classes classes ≡ true → has_some rest ≡ true
     → next_line (second_head_in v m) (λ head. read_second_rest v head next) ((spelled keyword.Merge ∷ way_tokens v by) ∷ classes_line classes ∷ rest)
     ≡ read_grounds v by classes next rest
@@ -168,7 +169,7 @@ merge_head_fw v m by classes next rest w e h =
     (classes_line classes ∷ rest) (second_head_fw v m (second_head.Merge by) w) (some_cons (classes_line classes) rest)
     ∙ classes_fw classes (λ classes. read_grounds v by classes next) rest e h
 
-merge_fw : (v : ℕ) (m : Mode) (by : Grounds) (classes : List ℕ) (next : Then SecondStep) (rest : List Line) → are_classes classes ≡ true
+merge_fw : {C : Type 0} (v : ℕ) (m : Mode) (by : Grounds) (classes : List ℕ) (next : On C SecondStep) (rest : List Line) → are_classes classes ≡ true
     → are_grounds v m by ≡ true → has_some rest ≡ true
     → next_line (second_head_in v m) (λ head. read_second_rest v head next) (merge_lines v by classes ++ rest) ≡ next (second.Merge by classes) rest
 merge_fw v m (grounds.Forward look rel) classes next rest e g h =
@@ -186,7 +187,7 @@ merge_fw v (mode.Buchi) (grounds.Delayed letters ranks) classes next rest e g h 
     ∙ rank_block_fw letters ranks (λ ranks. next (second.Merge (grounds.Delayed letters ranks) classes)) rest a.1 h
 merge_fw v (mode.Finite) (grounds.Delayed letters ranks) classes next rest e g h = absurd (cc)
 
-pub second_step_fw : (v : ℕ) (m : Mode) (s : SecondStep) (next : Then SecondStep) (rest : List Line) → is_second_step v m s ≡ true → has_some rest ≡ true
+pub second_step_fw : {C : Type 0} (v : ℕ) (m : Mode) (s : SecondStep) (next : On C SecondStep) (rest : List Line) → is_second_step v m s ≡ true → has_some rest ≡ true
     → next_line (second_head_in v m) (λ head. read_second_rest v head next) (second_step_lines v s ++ rest) ≡ next s rest
 second_step_fw v m (second.Trim kept) next rest e h =
     line_fw (second_head_in v m) (λ head. read_second_rest v head next) (spelled keyword.Trim ∷ numbers kept) (second_head.Trim kept) rest
@@ -203,18 +204,18 @@ second_step_fw v m (second.Cut gone) next rest e h =
     ∙ line_fw (ascending_in keyword.Gone tail.SomeNumbers) (λ gone. next (second.Cut gone)) gone_line gone rest
     (sorted_fw keyword.Gone tail.SomeNumbers (λ ns. ns) gone a.0 b.1 (some_numbers gone b.0)) h
 
-pub second_steps_fw : (v : ℕ) (m : Mode) (ss acc : List SecondStep) (next : Then (List SecondStep)) (rest : List Line) → list_all (is_second_step v m) ss ≡ true
+pub second_steps_fw : {C : Type 0} (v : ℕ) (m : Mode) (ss acc : List SecondStep) (next : On C (List SecondStep)) (rest : List Line) → list_all (is_second_step v m) ss ≡ true
     → has_some rest ≡ true → read_second_steps v m (length ss) acc next (each (second_step_lines v) ss ++ rest) ≡ next (acc ++ ss) rest
 second_steps_fw v m [] acc next rest e h = ap (λ x. next x rest) (sym (append-nil acc))
 second_steps_fw v m (s ∷ ss) acc next rest e h =
     let a = and_parts (is_second_step v m s) (list_all (is_second_step v m) ss) e in
-    let k : Then SecondStep = λ step. read_second_steps v m (length ss) (acc ++ step ∷ []) next in
+    let k = λ (step : SecondStep). read_second_steps v m (length ss) (acc ++ step ∷ []) next in
     ap (λ ls. next_line (second_head_in v m) (λ head. read_second_rest v head k) ls) (each_cons (second_step_lines v) s ss rest)
     ∙ second_step_fw v m s k (each (second_step_lines v) ss ++ rest) a.0 (some_append (each (second_step_lines v) ss) rest h)
     ∙ second_steps_fw v m ss (acc ++ s ∷ []) next rest a.1 h
     ∙ ap (λ x. next x rest) (append_assoc acc (s ∷ []) ss)
 
-pub second_log_fw : (v : ℕ) (m : Mode) (ss : List SecondStep) (next : Then (List SecondStep)) (rest : List Line) → is_short (length ss) ≡ true
+pub second_log_fw : {C : Type 0} (v : ℕ) (m : Mode) (ss : List SecondStep) (next : On C (List SecondStep)) (rest : List Line) → is_short (length ss) ≡ true
     → list_all (is_second_step v m) ss ≡ true → has_some rest ≡ true → read_second_log v m next (second_lines v ss ++ rest) ≡ next ss rest
 second_log_fw v m ss next rest s e h =
     line_fw (number_in keyword.Log2) (λ n. read_second_steps v m n [] next) (spelled keyword.Log2 ∷ decimal (length ss) ∷ []) (length ss)
@@ -222,7 +223,7 @@ second_log_fw v m ss next rest s e h =
     ∙ second_steps_fw v m ss [] next rest e h
 
 -- Elements.
-pub elements_fw : (m : Mode) (es acc : List Element) (next : Then (List Element)) (rest : List Line) → list_all (is_element m) es ≡ true
+pub elements_fw : {C : Type 0} (m : Mode) (es acc : List Element) (next : On C (List Element)) (rest : List Line) → list_all (is_element m) es ≡ true
     → has_some rest ≡ true → read_elements m (length es) acc next (each element_lines es ++ rest) ≡ next (acc ++ es) rest
 elements_fw m [] acc next rest e h = ap (λ x. next x rest) (sym (append-nil acc))
 elements_fw m (x ∷ xs) acc next rest e h =
@@ -243,19 +244,19 @@ origins_fw m (x ∷ xs) acc next rest e h =
     ∙ ap (λ y. next y rest) (append_assoc acc (x ∷ []) xs)
 
 -- The lines of live elements.
-abbrev pub StepsHold : ℕ → List Element → Then (List StepLine) → List Line → Type 0
+abbrev pub StepsHold : {C : Type 0} → ℕ → List Element → On C (List StepLine) → List Line → Type 0
 StepsHold n es next rest =
     (ss acc : List StepLine) → are_steps n es ss ≡ true
     → read_steps n es acc next (each step_lines ss ++ rest) ≡ next (acc ++ ss) rest
 
-none_case : (b : Bool) (n : ℕ) (es : List Element) (acc : List StepLine) (next : Then (List StepLine)) (rest : List Line)
+none_case : {C : Type 0} (b : Bool) (n : ℕ) (es : List Element) (acc : List StepLine) (next : On C (List StepLine)) (rest : List Line)
     → StepsHold (n + 1) es next rest → cond b false (are_steps (n + 1) es []) ≡ true
     → cond b (next_line (step_in n) (λ step. read_steps (n + 1) es (acc ++ step ∷ []) next) rest) (read_steps (n + 1) es acc next rest)
     ≡ next (acc ++ []) rest
 none_case true n es acc next rest k e = absurd (cc)
 none_case false n es acc next rest k e = k [] acc e
 
-some_case : (b : Bool) (n : ℕ) (es : List Element) (s : StepLine) (ss acc : List StepLine) (next : Then (List StepLine)) (rest : List Line)
+some_case : {C : Type 0} (b : Bool) (n : ℕ) (es : List Element) (s : StepLine) (ss acc : List StepLine) (next : On C (List StepLine)) (rest : List Line)
     → StepsHold (n + 1) es next rest → has_some rest ≡ true
     → cond b (is_step_of n s && are_steps (n + 1) es ss) (are_steps (n + 1) es (s ∷ ss)) ≡ true
     → cond b (next_line (step_in n) (λ step. read_steps (n + 1) es (acc ++ step ∷ []) next) (each step_lines (s ∷ ss) ++ rest))
@@ -269,14 +270,14 @@ some_case true n es s ss acc next rest k h e =
     ∙ ap (λ y. next y rest) (append_assoc acc (s ∷ []) ss)
 some_case false n es s ss acc next rest k h e = k (s ∷ ss) acc e
 
-pub steps_fw : (n : ℕ) (es : List Element) (next : Then (List StepLine)) (rest : List Line) → has_some rest ≡ true → StepsHold n es next rest
+pub steps_fw : {C : Type 0} (n : ℕ) (es : List Element) (next : On C (List StepLine)) (rest : List Line) → has_some rest ≡ true → StepsHold n es next rest
 steps_fw n [] next rest h [] acc e = ap (λ x. next x rest) (sym (append-nil acc))
 steps_fw n [] next rest h (s ∷ ss) acc e = absurd (cc)
 steps_fw n (x ∷ xs) next rest h [] acc e = none_case (is_live x.mark) n xs acc next rest (steps_fw (n + 1) xs next rest h) e
 steps_fw n (x ∷ xs) next rest h (s ∷ ss) acc e = some_case (is_live x.mark) n xs s ss acc next rest (steps_fw (n + 1) xs next rest h) h e
 
 -- What a yes has after its logs.
-pub closed_fw : (v : ℕ) (m : Mode) (order : RelBlock) (es : List Element) (cover : List ℕ) (ss : List StepLine) (next : Then Closed) (rest : List Line)
+pub closed_fw : {C : Type 0} (v : ℕ) (m : Mode) (order : RelBlock) (es : List Element) (cover : List ℕ) (ss : List StepLine) (next : On C Closed) (rest : List Line)
     → is_block order ≡ true → is_short (length es) ≡ true → list_all (is_element m) es ≡ true → are_short cover ≡ true → are_steps 0 es ss ≡ true
     → has_some rest ≡ true
     → read_closed v m next (block_lines v order ++ (closed_lines es cover ss ++ rest))
@@ -312,6 +313,18 @@ list_part_fw m limit es next rest a b c h =
     (elements_line (length es)) (length es) after (number_fw keyword.Elements (length es) b) (some_append (each origin_lines es) rest h)
     ∙ origins_fw m es [] (λ elements. next (record { limit = limit; elements = elements })) rest c h
 
+-- A lasso.
+pub lasso_fw : {C : Type 0} (lasso : Lasso) (next : On C Lasso) (rest : List Line) → is_lasso lasso ≡ true → has_some rest ≡ true
+    → read_lasso next ((spelled keyword.Prefix ∷ numbers lasso.prefix) ∷ (spelled keyword.Loop ∷ numbers lasso.turn) ∷ rest) ≡ next lasso rest
+lasso_fw lasso next rest e h =
+    let a = and_parts (are_short lasso.prefix) _ e in
+    let b = and_parts (are_short lasso.turn) (has_some lasso.turn) a.1 in
+    let turn_line = spelled keyword.Loop ∷ numbers lasso.turn in
+    line_fw (numbers_in keyword.Prefix tail.Numbers) (λ prefix. read_turn prefix next) (spelled keyword.Prefix ∷ numbers lasso.prefix) lasso.prefix
+    (turn_line ∷ rest) (numbers_fw keyword.Prefix tail.Numbers lasso.prefix a.0 refl) (some_cons turn_line rest)
+    ∙ line_fw (numbers_in keyword.Loop tail.SomeNumbers) (λ turn. next (record { prefix = lasso.prefix; turn = turn })) turn_line
+    lasso.turn rest (numbers_fw keyword.Loop tail.SomeNumbers lasso.turn b.0 (some_numbers lasso.turn b.1)) h
+
 -- The body.
 pub body_fw : (v : ℕ) (m : Mode) (b : Body) (next : Then Body) (rest : List Line) → is_body v m b ≡ true → has_some rest ≡ true
     → read_body v m (form_of b) next (body_lines v b ++ rest) ≡ next b rest
@@ -339,13 +352,7 @@ body_fw v m (body.Yes y) next rest e h =
     ∙ second_log_fw v m y.second k2 after_second l2.0 l2.1 some2
     ∙ closed_fw v m y.order y.elements y.cover y.steps (λ closed. next (yes_of y.first y.second closed)) rest b.0 c.0 d.0 f.0 f.1 h
 body_fw v (mode.Buchi) (body.NoLasso lasso) next rest e h =
-    let a = and_parts (are_short lasso.prefix) _ e in
-    let b = and_parts (are_short lasso.turn) (has_some lasso.turn) a.1 in
-    let turn_line = spelled keyword.Loop ∷ numbers lasso.turn in
-    line_fw (numbers_in keyword.Prefix tail.Numbers) (λ prefix. read_turn prefix next) (spelled keyword.Prefix ∷ numbers lasso.prefix) lasso.prefix
-    (turn_line ∷ rest) (numbers_fw keyword.Prefix tail.Numbers lasso.prefix a.0 refl) (some_cons turn_line rest)
-    ∙ line_fw (numbers_in keyword.Loop tail.SomeNumbers) (λ turn. next (body.NoLasso (record { prefix = lasso.prefix; turn = turn }))) turn_line
-    lasso.turn rest (numbers_fw keyword.Loop tail.SomeNumbers lasso.turn b.0 (some_numbers lasso.turn b.1)) h
+    lasso_fw lasso (λ l. next (body.NoLasso l)) rest e h
 body_fw v (mode.Finite) (body.NoLasso lasso) next rest e h = absurd (cc)
 body_fw v (mode.Buchi) (body.NoWord word) next rest e h = absurd (cc)
 body_fw v (mode.Finite) (body.NoWord word) next rest e h =

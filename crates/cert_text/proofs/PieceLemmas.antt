@@ -10,8 +10,8 @@ use Rattle.cert_text.specs.declared.machine.State.{State}
 use Rattle.cert_text.specs.declared.machine.State.TheVariants as state
 use Rattle.cert_text.specs.declared.pieces.Lines.{Lines}
 use Rattle.cert_line.specs.Agrees.{Agrees}
-use Rattle.text_lines.specs.Cut.{is_newline, IsUnfinished, IsLineCut}
-use Rattle.text_lines.proofs.CutLemmas.{none_in}
+use Rattle.ba_format.specs.Cut.{is_newline, IsUnfinished, IsLineCut}
+use Rattle.ba_format.proofs.CutLemmas.{none_in}
 use Rattle.cert_text.specs.Grammar.{lines_of, read_lines, reading, told_at, after}
 use Rattle.cert_text.specs.Told.{located}
 use Rattle.cert_text.specs.Machine.{step, at_end}

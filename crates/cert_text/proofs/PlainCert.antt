@@ -21,6 +21,7 @@ use Rattle.cert_value.specs.declared.types.RankRow.{RankRow}
 use Rattle.cert_value.specs.declared.types.Mark.{Mark}
 use Rattle.cert_value.specs.declared.types.Mark.TheVariants as mark
 use Rattle.cert_value.specs.declared.types.StepLine.{StepLine}
+use Rattle.cert_value.specs.declared.types.Element.{Element}
 use Rattle.cert_value.specs.Text.{Line, spelled, numbers, row_numbers, letters_tokens, version_word, each, row_lines, block_lines, ranked_numbers, rank_row_lines, rank_block_lines, gone_numbers, first_step_lines, merge_lines, second_step_lines, origin_line, mark_tokens, element_lines, origin_lines, step_lines, first_lines, second_lines, closed_lines, limit_lines, body_lines, mode_word, form_word, form_of, end_line, cert_lines}
 use Rattle.cert_text.proofs.BytesLines.{plain, PlainLine, PlainLines, spelled_plain, decimal_plain, numbers_plain}
 
@@ -54,10 +55,10 @@ plain_rank_row row =
     let ns = row.ahead ++ ranked_numbers row.rights in
     (word_line keyword.Row (decimal row.left ∷ numbers ns) (number_then row.left (numbers ns) (numbers_plain ns)), tt)
 
-plain_rank_block : (b : RankBlock) → PlainLines (rank_block_lines b)
+pub plain_rank_block : (b : RankBlock) → PlainLines (rank_block_lines b)
 plain_rank_block b = (one_number keyword.Rel (length b.rows), plain_each rank_row_lines plain_rank_row b.rows)
 
-plain_numbers : (w : Keyword) (ns : List ℕ) → PlainLine (spelled w ∷ numbers ns)
+pub plain_numbers : (w : Keyword) (ns : List ℕ) → PlainLine (spelled w ∷ numbers ns)
 plain_numbers w ns = word_line w (numbers ns) (numbers_plain ns)
 
 plain_first : (v : ℕ) (s : FirstStep) → PlainLines (first_step_lines v s)
@@ -105,21 +106,31 @@ plain_element (mark.Under j) from = word_line keyword.Under (decimal j ∷ origi
 plain_step : (s : StepLine) → PlainLines (step_lines s)
 plain_step s = (word_line keyword.Step (decimal s.element ∷ numbers s.by) (number_then s.element (numbers s.by) (numbers_plain s.by)), tt)
 
+pub plain_first_log : (v : ℕ) (fs : List FirstStep) → PlainLines (first_lines v fs)
+plain_first_log v fs = (one_number keyword.Log1 (length fs), plain_each (first_step_lines v) (plain_first v) fs)
+
+pub plain_second_log : (v : ℕ) (ss : List SecondStep) → PlainLines (second_lines v ss)
+plain_second_log v ss = (one_number keyword.Log2 (length ss), plain_each (second_step_lines v) (plain_second v) ss)
+
+-- The order, the elements, their cover and their extensions.
+pub plain_closed : (v : ℕ) (order : RelBlock) (es : List Element) (cover : List ℕ) (ss : List StepLine) → PlainLines (block_lines v order ++ closed_lines es cover ss)
+plain_closed v order es cover ss =
+    plain_append (block_lines v order) (closed_lines es cover ss) (plain_block v order) (
+      one_number keyword.Elements (length es),
+      plain_append (each element_lines es) ((spelled keyword.Cover ∷ numbers cover) ∷ each step_lines ss)
+          (plain_each element_lines (λ e. (plain_element e.mark e.origin, tt)) es)
+          (plain_numbers keyword.Cover cover, plain_each step_lines plain_step ss),
+    )
+
 plain_logs : (v : ℕ) (fs : List FirstStep) (ss : List SecondStep) (after : List Line) → PlainLines after
     → PlainLines (first_lines v fs ++ (second_lines v ss ++ after))
 plain_logs v fs ss after h =
-    plain_append (first_lines v fs) (second_lines v ss ++ after) (one_number keyword.Log1 (length fs), plain_each (first_step_lines v) (plain_first v) fs)
-    (plain_append (second_lines v ss) after (one_number keyword.Log2 (length ss), plain_each (second_step_lines v) (plain_second v) ss) h)
+    plain_append (first_lines v fs) (second_lines v ss ++ after) (plain_first_log v fs) (plain_append (second_lines v ss) after (plain_second_log v ss) h)
 
 plain_body : (v : ℕ) (b : Body) → PlainLines (body_lines v b)
 plain_body v (body.Yes y) =
     plain_logs v y.first y.second (block_lines v y.order ++ closed_lines y.elements y.cover y.steps)
-    (plain_append (block_lines v y.order) (closed_lines y.elements y.cover y.steps) (plain_block v y.order) (
-      one_number keyword.Elements (length y.elements),
-      plain_append (each element_lines y.elements) ((spelled keyword.Cover ∷ numbers y.cover) ∷ each step_lines y.steps)
-          (plain_each element_lines (λ e. (plain_element e.mark e.origin, tt)) y.elements)
-          (plain_numbers keyword.Cover y.cover, plain_each step_lines plain_step y.steps),
-    ))
+    (plain_closed v y.order y.elements y.cover y.steps)
 plain_body v (body.NoLasso lasso) = (plain_numbers keyword.Prefix lasso.prefix, (plain_numbers keyword.Loop lasso.turn, tt))
 plain_body v (body.NoWord word) = (plain_numbers keyword.Word word, tt)
 plain_body v (body.Listing list) =

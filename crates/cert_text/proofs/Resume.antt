@@ -128,7 +128,7 @@ last_of_more : (rows : List RankRow) (row : RankRow) → slice_get (rows ++ row 
 last_of_more [] row = refl
 last_of_more (r ∷ rows) row = last_of_more rows row
 
-key_of_more : (rows : List RankRow) (row : RankRow) → last_key (rows ++ row ∷ []) ≡ rank_key row
+pub key_of_more : (rows : List RankRow) (row : RankRow) → last_key (rows ++ row ∷ []) ≡ rank_key row
 key_of_more rows row =
     let count : length (rows ++ row ∷ []) - 1 ≡ length rows = omega (arith, length-append rows (row ∷ [])) in
     ap (λ n. key_before (slice_get (rows ++ row ∷ []) n)) count ∙ ap key_before (last_of_more rows row)

@@ -179,8 +179,8 @@ list_last m (list_state.Origin limit elements later) next piece = refl
 
 -- The evidence of a no.
 abbrev pub resume_no : Resume NoState Body
-resume_no (no_state.Prefix) next = read_lasso next
-resume_no (no_state.Turn prefix) next = read_turn prefix next
+resume_no (no_state.Prefix) next = read_lasso (λ lasso. next (body.NoLasso lasso))
+resume_no (no_state.Turn prefix) next = read_turn prefix (λ lasso. next (body.NoLasso lasso))
 resume_no (no_state.Word) next = read_word next
 
 pub no_law : (s : NoState) (next : Then Body) (line other : Line) (rest : List Line)
@@ -188,7 +188,7 @@ pub no_law : (s : NoState) (next : Then Body) (line other : Line) (rest : List L
     ≡ after (step_no s line) (on_step resume_no next) (line ∷ other ∷ rest) (other ∷ rest)
 unfolding step_no
 no_law (no_state.Prefix) next line other rest =
-    arm (λ prefix. More (no_state.Turn prefix)) (numbers_in keyword.Prefix tail.Numbers line) (λ prefix. read_turn prefix next)
+    arm (λ prefix. More (no_state.Turn prefix)) (numbers_in keyword.Prefix tail.Numbers line) (λ prefix. read_turn prefix (λ lasso. next (body.NoLasso lasso)))
     (on_step resume_no next) (λ prefix lines. refl) (line ∷ other ∷ rest) (other ∷ rest)
 no_law (no_state.Turn prefix) next line other rest =
     arm (λ turn. Whole (body.NoLasso (record { prefix = prefix; turn = turn }))) (numbers_in keyword.Loop tail.SomeNumbers line)

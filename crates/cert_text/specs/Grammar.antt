@@ -4,6 +4,7 @@ use Rattle.std.specs.Prelude.{ℕ, zero, suc, ◌+◌, ◌-◌, List, [], ◌∷
 use Rattle.std.specs.List.{slice_split}
 use Rattle.auto_core.specs.declared.parts.Mode.{Mode}
 use Rattle.auto_core.specs.declared.parts.Mode.TheVariants as mode
+use Rattle.auto_core.specs.declared.parts.Lasso.{Lasso}
 use Rattle.auto_core.specs.declared.parts.Origin.{Origin}
 use Rattle.cert_value.specs.declared.keywords.Keyword.TheVariants as keyword
 use Rattle.cert_line.specs.declared.shapes.Tail.TheVariants as tail
@@ -84,8 +85,8 @@ read_block v next =
     (number_in keyword.Rel) (λ n. read_rows v n 0 [] (λ rows. next (record { rows = rows })))
 
 -- That many rows with ranks, whose left numbers and words ascend past the key, after these.
-abbrev pub read_rank_rows : ℕ → ℕ → List ℕ → List RankRow → Then (List RankRow) → List Line
-    → ReadOutcome
+abbrev pub read_rank_rows : {C : Type 0} → ℕ → ℕ → List ℕ → List RankRow → On C (List RankRow) → List Line
+    → LinesOutcome C
 read_rank_rows letters zero key rows next lines = next rows lines
 read_rank_rows letters (suc n) key rows next lines =
     next_line
@@ -93,24 +94,24 @@ read_rank_rows letters (suc n) key rows next lines =
     read_rank_rows letters n (rank_key row) (rows ++ row ∷ []) next) lines
 
 -- A relation with ranks.
-abbrev pub read_rank_block : ℕ → Then RankBlock → List Line → ReadOutcome
+abbrev pub read_rank_block : {C : Type 0} → ℕ → On C RankBlock → List Line → LinesOutcome C
 read_rank_block letters next =
     next_line
     (number_in keyword.Rel) (λ n.
     read_rank_rows letters n [] [] (λ rows. next (record { rows = rows })))
 
 -- That many relations, after these.
-abbrev pub read_blocks : ℕ → ℕ → List RelBlock → Then (List RelBlock) → List Line → ReadOutcome
+abbrev pub read_blocks : {C : Type 0} → ℕ → ℕ → List RelBlock → On C (List RelBlock) → List Line → LinesOutcome C
 read_blocks v zero blocks next lines = next blocks lines
 read_blocks v (suc n) blocks next lines =
     read_block v (λ block. read_blocks v n (blocks ++ block ∷ []) next) lines
 
 -- The classes of the states.
-abbrev pub read_classes : Then (List ℕ) → List Line → ReadOutcome
+abbrev pub read_classes : {C : Type 0} → On C (List ℕ) → List Line → LinesOutcome C
 read_classes = next_line (numbers_in keyword.Classes tail.SomeNumbers)
 
 -- The rest of a step of the first log.
-abbrev pub read_first_rest : ℕ → FirstHead → Then FirstStep → List Line → ReadOutcome
+abbrev pub read_first_rest : {C : Type 0} → ℕ → FirstHead → On C FirstStep → List Line → LinesOutcome C
 read_first_rest v (first_head.Trim kept) next = next (first.Trim kept)
 read_first_rest v (first_head.Merge) next = read_classes (λ classes. next (first.Merge classes))
 read_first_rest v (first_head.Cut pair look) next =
@@ -119,15 +120,15 @@ read_first_rest v (first_head.Cut pair look) next =
     read_blocks v (blocks_due pair) [] (λ blocks. next (first.Cut pair look gone blocks)))
 
 -- That many steps of the first log, after these.
-abbrev pub read_first_steps : ℕ → ℕ → List FirstStep → Then (List FirstStep) → List Line
-    → ReadOutcome
+abbrev pub read_first_steps : {C : Type 0} → ℕ → ℕ → List FirstStep → On C (List FirstStep) → List Line
+    → LinesOutcome C
 read_first_steps v zero steps next lines = next steps lines
 read_first_steps v (suc n) steps next lines =
     next_line first_head_in
     (λ head. read_first_rest v head (λ step. read_first_steps v n (steps ++ step ∷ []) next)) lines
 
 -- The relation by which states of the second automaton are merged.
-abbrev pub read_grounds : ℕ → Way → List ℕ → Then SecondStep → List Line → ReadOutcome
+abbrev pub read_grounds : {C : Type 0} → ℕ → Way → List ℕ → On C SecondStep → List Line → LinesOutcome C
 read_grounds v (way.Forward look) classes next =
     read_block v (λ rel. next (second.Merge (grounds.Forward look rel) classes))
 read_grounds v (way.Backward look) classes next =
@@ -136,7 +137,7 @@ read_grounds v (way.Delayed letters) classes next =
     read_rank_block letters (λ ranks. next (second.Merge (grounds.Delayed letters ranks) classes))
 
 -- The rest of a step of the second log.
-abbrev pub read_second_rest : ℕ → SecondHead → Then SecondStep → List Line → ReadOutcome
+abbrev pub read_second_rest : {C : Type 0} → ℕ → SecondHead → On C SecondStep → List Line → LinesOutcome C
 read_second_rest v (second_head.Trim kept) next = next (second.Trim kept)
 read_second_rest v (second_head.Merge way) next =
     read_classes (λ classes. read_grounds v way classes next)
@@ -144,8 +145,8 @@ read_second_rest v (second_head.Cut) next =
     next_line (ascending_in keyword.Gone tail.SomeNumbers) (λ gone. next (second.Cut gone))
 
 -- That many steps of the second log, after these.
-abbrev pub read_second_steps : ℕ → Mode → ℕ → List SecondStep → Then (List SecondStep) → List Line
-    → ReadOutcome
+abbrev pub read_second_steps : {C : Type 0} → ℕ → Mode → ℕ → List SecondStep → On C (List SecondStep) → List Line
+    → LinesOutcome C
 read_second_steps v m zero steps next lines = next steps lines
 read_second_steps v m (suc n) steps next lines =
     next_line (second_head_in v m)
@@ -153,14 +154,14 @@ read_second_steps v m (suc n) steps next lines =
     lines
 
 -- That many elements of a yes, after these.
-abbrev pub read_elements : Mode → ℕ → List Element → Then (List Element) → List Line → ReadOutcome
+abbrev pub read_elements : {C : Type 0} → Mode → ℕ → List Element → On C (List Element) → List Line → LinesOutcome C
 read_elements m zero elements next lines = next elements lines
 read_elements m (suc n) elements next lines =
     next_line (element_in m) (λ e. read_elements m n (elements ++ e ∷ []) next) lines
 
 -- One line for each of these elements that is live, the first of them having the number n.
-abbrev pub read_steps : ℕ → List Element → List StepLine → Then (List StepLine) → List Line
-    → ReadOutcome
+abbrev pub read_steps : {C : Type 0} → ℕ → List Element → List StepLine → On C (List StepLine) → List Line
+    → LinesOutcome C
 read_steps n [] steps next lines = next steps lines
 read_steps n (e ∷ es) steps next lines =
     cond (is_live e.mark)
@@ -174,19 +175,19 @@ read_origins m (suc n) origins next lines =
     next_line (origin_in m) (λ from. read_origins m n (origins ++ from ∷ []) next) lines
 
 -- What a yes has after the order: the elements, their cover and their extensions.
-abbrev pub read_cover : RelBlock → List Element → Then Closed → List Line → ReadOutcome
+abbrev pub read_cover : {C : Type 0} → RelBlock → List Element → On C Closed → List Line → LinesOutcome C
 read_cover order elements next =
     next_line (numbers_in keyword.Cover tail.Numbers) (λ cover. read_steps 0 elements [] (λ steps.
     next (record { order = order; elements = elements; cover = cover; steps = steps })))
 
-abbrev pub read_all_elements : Mode → RelBlock → Then Closed → List Line → ReadOutcome
+abbrev pub read_all_elements : {C : Type 0} → Mode → RelBlock → On C Closed → List Line → LinesOutcome C
 read_all_elements m order next =
     next_line
     (number_in keyword.Elements) (λ n.
     read_elements m n [] (λ elements. read_cover order elements next))
 
 -- What a yes has after the logs.
-abbrev pub read_closed : ℕ → Mode → Then Closed → List Line → ReadOutcome
+abbrev pub read_closed : {C : Type 0} → ℕ → Mode → On C Closed → List Line → LinesOutcome C
 read_closed v m next = read_block v (λ order. read_all_elements m order next)
 
 -- What a list has after the logs.
@@ -199,21 +200,21 @@ abbrev pub read_list_part : Mode → Then ListPart → List Line → ReadOutcome
 read_list_part m next = next_line (number_in keyword.Limit) (λ limit. read_all_origins m limit next)
 
 -- The first log.
-abbrev pub read_first_log : ℕ → Then (List FirstStep) → List Line → ReadOutcome
+abbrev pub read_first_log : {C : Type 0} → ℕ → On C (List FirstStep) → List Line → LinesOutcome C
 read_first_log v next = next_line (number_in keyword.Log1) (λ n. read_first_steps v n [] next)
 
 -- The second log.
-abbrev pub read_second_log : ℕ → Mode → Then (List SecondStep) → List Line → ReadOutcome
+abbrev pub read_second_log : {C : Type 0} → ℕ → Mode → On C (List SecondStep) → List Line → LinesOutcome C
 read_second_log v m next = next_line (number_in keyword.Log2) (λ n. read_second_steps v m n [] next)
 
 -- A lasso.
-abbrev pub read_turn : List ℕ → Then Body → List Line → ReadOutcome
+abbrev pub read_turn : {C : Type 0} → List ℕ → On C Lasso → List Line → LinesOutcome C
 read_turn prefix next =
     next_line
     (numbers_in keyword.Loop tail.SomeNumbers) (λ turn.
-    next (body.NoLasso (record { prefix = prefix; turn = turn })))
+    next (record { prefix = prefix; turn = turn }))
 
-abbrev pub read_lasso : Then Body → List Line → ReadOutcome
+abbrev pub read_lasso : {C : Type 0} → On C Lasso → List Line → LinesOutcome C
 read_lasso next =
     next_line (numbers_in keyword.Prefix tail.Numbers) (λ prefix. read_turn prefix next)
 
@@ -263,7 +264,7 @@ read_logs v m f next = read_first_log v (λ firsts. read_after_first v m f first
 -- The lines between the line of sizes and the last line.
 abbrev pub read_body : ℕ → Mode → Form → Then Body → List Line → ReadOutcome
 read_body v m (form.Yes) next = read_logs v m form.Yes next
-read_body v (mode.Buchi) (form.No) next = read_lasso next
+read_body v (mode.Buchi) (form.No) next = read_lasso (λ lasso. next (body.NoLasso lasso))
 read_body v (mode.Finite) (form.No) next = read_word next
 read_body v m (form.List) next = read_logs v m form.List next
 

@@ -3,3 +3,12 @@ pub mod Machine
 pub mod Told
 pub mod Law
 pub mod Pieces
+pub mod CrossGrammar
+pub mod CrossLaw
+pub mod LinesLeft
+pub mod CrossText
+pub mod FirstFaults
+pub mod Admitted
+pub mod Texts
+pub mod Crosses
+pub mod CrossAdmitted

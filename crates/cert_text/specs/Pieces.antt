@@ -14,7 +14,7 @@ use Rattle.cert_text.specs.declared.pieces.CertReader.{CertReader}
 use Rattle.cert_text.specs.Grammar.{lines_of}
 use Rattle.cert_text.specs.Law.{FirstFault}
 use Rattle.cert_text.specs.Machine.{step}
-use Rattle.text_lines.specs.Cut.{IsUnfinished}
+use Rattle.ba_format.specs.Cut.{IsUnfinished}
 
 -- The lines lead from one state to the other.
 abbrev pub LeadsByLines : State → List Line → State → Type 0

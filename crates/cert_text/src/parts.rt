@@ -17,16 +17,16 @@ pub(crate) enum PartSoFar<S: Drop, X: Drop> {
 }
 
 /// What a yes has after its logs.
-#[derive(Drop)]
-pub(crate) struct Closed {
+#[derive(Debug, Drop)]
+pub struct Closed {
     /// The order.
-    pub(crate) order: RelBlock,
+    pub order: RelBlock,
     /// The elements.
-    pub(crate) elements: List<Element>,
+    pub elements: List<Element>,
     /// The cover of the starts.
-    pub(crate) cover: List<u32>,
+    pub cover: List<u32>,
     /// The extensions.
-    pub(crate) steps: List<StepLine>,
+    pub steps: List<StepLine>,
 }
 
 /// What a list has after its logs.

@@ -6,7 +6,7 @@ ghost use Rattle.cert_value.specs.Text.{text as text_of};
 ghost use Rattle.cert_value.specs.WellFormed.{WellFormed};
 ghost use Rattle.cert_text.specs.declared.faults.TextFault.{TextFault as AFault};
 ghost use Rattle.cert_text.specs.declared.faults.CertReadFault.TheVariants as fault;
-ghost use Rattle.text_lines.specs.Cut.{IsUnfinished, IsLineCut};
+ghost use Rattle.ba_format.specs.Cut.{IsUnfinished, IsLineCut};
 ghost use Rattle.cert_text.specs.Grammar.{reading};
 ghost use Rattle.cert_text.specs.Told.{Told};
 ghost use Rattle.cert_text.specs.Law.{FirstFault};
@@ -102,10 +102,10 @@ pub struct CertReader {
 
 impl CertReader {
     /// A reader before the first piece. It takes no memory yet.
-    pub fn new(alloc: Global) -> Result<CertReader, Memory>
-        ensures { IfOk result (λ reader. HasReadCert reader []) }
+    pub fn empty(alloc: Global) -> CertReader
+        ensures { HasReadCert result [] }
     {
-        Ok(CertReader {
+        CertReader {
             alloc,
             lines: Lines {
                 state: State::Heading,
@@ -113,7 +113,14 @@ impl CertReader {
             },
             line: Vec::new(alloc),
             progress: Progress::Faultless,
-        })
+        }
+    }
+
+    /// The same, never refused.
+    pub fn new(alloc: Global) -> Result<CertReader, Memory>
+        ensures { MatchResult result (λ reader. HasReadCert reader []) (λ _. ⊥) }
+    {
+        Ok(CertReader::empty(alloc))
     }
 
     /// Takes the whole lines of the piece, and keeps what stands after the last LF. No line is

@@ -2,7 +2,7 @@
 
 ghost use Rattle.std.specs.Prelude.{◌≡◌, ◌==◌, ◌≤◌, ◌^◌, ◌∷◌, [], ℕ, length, position, ◌<◌, ◌⊎◌, Ok, Err, MatchOption, IfSome, IfOk};
 ghost use Rattle.cert_value.specs.Tokens.{tokens_of};
-ghost use Rattle.text_lines.specs.Cut.{IsUnfinished, IsLineCut};
+ghost use Rattle.ba_format.specs.Cut.{IsUnfinished, IsLineCut};
 ghost use Rattle.cert_text.specs.Grammar.{lines_of, told_at};
 ghost use Rattle.cert_text.specs.Told.{Told, located};
 ghost use Rattle.cert_text.specs.Machine.{done_cert, at_end};
@@ -16,13 +16,13 @@ ghost use Rattle.cert_text.specs.declared.faults.CertReadFault.TheVariants as fa
 use crate::faults::{CertReadFault, TextFault};
 use crate::machine::State;
 use crate::pieces::CertReader;
+use ba_format::split_line;
 use cert_line::{LineFault, TextKind};
 use cert_value::Cert;
 use std::alloc::Global;
-use text_lines::split_line;
 
 /// The first line, without its LF, and what follows it.
-pub fn first_line(bytes: &[u8]) -> Option<(&[u8], &[u8])>
+pub(crate) fn first_line(bytes: &[u8]) -> Option<(&[u8], &[u8])>
     ensures cut { MatchOption result
         (lines_of bytes.now ≡ tokens_of bytes.now ∷ [])
         (λ cut. lines_of bytes.now ≡ tokens_of cut.0.now ∷ lines_of cut.1.now) }
@@ -34,7 +34,7 @@ pub fn first_line(bytes: &[u8]) -> Option<(&[u8], &[u8])>
 }
 
 /// The fault, at the line with this number.
-pub fn located(fault: LineFault, line: u32) -> CertReadFault
+pub(crate) fn located(fault: LineFault, line: u32) -> CertReadFault
     ensures { result ≡ located line fault }
 {
     match fault {
@@ -91,7 +91,7 @@ pub fn read_cert(alloc: Global, bytes: &[u8]) -> Result<Cert, CertReadFault>
         → FirstFault bytes.now f
         → (result ≡ Err (fault.Text f)) ⊎ (result ≡ Err fault.Memory) }
 {
-    let mut reader = CertReader::new(alloc)?;
+    let mut reader = CertReader::empty(alloc);
     match reader.feed(bytes) {
         Ok(()) => reader.finish(),
         Err(_refused) => {

@@ -14,7 +14,7 @@ use cert_value::{
 use std::alloc::Global;
 
 /// Writes the first log.
-fn print_first_log(out: &mut List<u8>, steps: &[FirstStep], version: u32) -> Result<(), Memory>
+pub fn print_first_log(out: &mut List<u8>, steps: &[FirstStep], version: u32) -> Result<(), Memory>
     ensures { OnOk result (out.new ≡ out.old ++ text_of (first_lines version steps.now)) }
 {
     print_count(out, Keyword::Log1, steps.len())?;
@@ -23,7 +23,11 @@ fn print_first_log(out: &mut List<u8>, steps: &[FirstStep], version: u32) -> Res
 }
 
 /// Writes the second log.
-fn print_second_log(out: &mut List<u8>, steps: &[SecondStep], version: u32) -> Result<(), Memory>
+pub fn print_second_log(
+    out: &mut List<u8>,
+    steps: &[SecondStep],
+    version: u32,
+) -> Result<(), Memory>
     ensures { OnOk result (out.new ≡ out.old ++ text_of (second_lines version steps.now)) }
 {
     print_count(out, Keyword::Log2, steps.len())?;
@@ -32,7 +36,7 @@ fn print_second_log(out: &mut List<u8>, steps: &[SecondStep], version: u32) -> R
 }
 
 /// Writes the elements of a yes, their cover and their extensions.
-fn print_elements(
+pub fn print_elements(
     out: &mut List<u8>,
     elements: &[Element],
     cover: &[u32],

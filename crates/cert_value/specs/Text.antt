@@ -70,6 +70,12 @@ spelled keyword.RabitCross = codes "rabit-cross"
 spelled keyword.Two = codes "2"
 spelled keyword.Yes = codes "yes"
 spelled keyword.Word = codes "word"
+spelled keyword.Accepting = codes "accepting"
+spelled keyword.Closed = codes "closed"
+spelled keyword.Letters = codes "letters"
+spelled keyword.Map = codes "map"
+spelled keyword.Product = codes "product"
+spelled keyword.RabitProof = codes "rabit-proof"
 
 -- A line is a list of tokens.
 abbrev pub Line : Type 0

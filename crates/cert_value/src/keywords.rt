@@ -1,9 +1,9 @@
-//! The words of a certificate's text, and of a cross relation's.
+//! The words of the texts of certificates, of cross relations and of proofs.
 
 ghost use Rattle.std.specs.Prelude.{◌≡◌};
 ghost use Rattle.cert_value.specs.Text.{spelled};
 
-/// A word that a line of a certificate or of a cross relation may hold.
+/// A word that a line of a certificate, of a cross relation or of a proof may hold.
 #[derive(Clone, Copy, Debug, PartialEq, Eq)]
 pub enum Keyword {
     Backward,
@@ -42,6 +42,12 @@ pub enum Keyword {
     Two,
     Yes,
     Word,
+    Accepting,
+    Closed,
+    Letters,
+    Map,
+    Product,
+    RabitProof,
 }
 
 impl Keyword {
@@ -87,6 +93,12 @@ impl Keyword {
             Keyword::Two => b"2",
             Keyword::Yes => b"yes",
             Keyword::Word => b"word",
+            Keyword::Accepting => b"accepting",
+            Keyword::Closed => b"closed",
+            Keyword::Letters => b"letters",
+            Keyword::Map => b"map",
+            Keyword::Product => b"product",
+            Keyword::RabitProof => b"rabit-proof",
         }
     }
 }

@@ -4,7 +4,7 @@ use Rattle.auto_core.specs.Automaton.{Automaton, IsAutomaton, Moves}
 use Rattle.auto_core.specs.Accept.{Includes}
 use Rattle.auto_core.specs.declared.parts.Mode.{Mode}
 use Rattle.auto_core.specs.Game.{Holds, Stable, StableAcross, ArePairsBelow}
-use Rattle.path_laws.proofs.AppliedLemmas.{across_includes}
+use Rattle.auto_laws.proofs.AppliedLemmas.{across_includes}
 use Rattle.ba_format.specs.declared.parts.Joined.{Joined}
 use Rattle.std.proofs.lemmas.Bool.{and_parts, false≢true}
 use Rattle.cert_value.specs.declared.types.RelBlock.{RelBlock}
@@ -13,11 +13,11 @@ use Rattle.cert_value.specs.WellFormed.{is_short, are_rows}
 use Rattle.cert_line.proofs.NumberFacts.{short_lt}
 use Rattle.log_check.specs.Blocks.{pairs_of}
 use Rattle.log_check.specs.Checks.{RuleCheck, AllHold, rule_at}
-use Rattle.cross_text.specs.declared.types.Cross.{Cross}
+use Rattle.cert_text.specs.declared.cross.Cross.{Cross}
 use Rattle.cross_sim.specs.declared.faults.CheckCrossFault.{CheckCrossFault}
 use Rattle.cross_sim.specs.declared.faults.CheckCrossFault.TheVariants.{Refused, Memory}
 use Rattle.cross_sim.specs.declared.faults.CrossRefusal.{CrossRefusal}
-use Rattle.cross_text.specs.Text.{CrossFormed}
+use Rattle.cert_text.specs.CrossText.{CrossFormed}
 use Rattle.cross_sim.specs.Rules.{NoCrossBreaksWhereKept, CrossBreakIsOne, HasCrossSizes, raised_block, pairs_across, cross_checks, TellsCross, BreaksFirst, KeptRulesInclude}
 use Rattle.log_check.specs.declared.faults.Refusal.{Refusal}
 use Rattle.log_check.proofs.LawOneLemmas.{broken_one, broken_or_all}

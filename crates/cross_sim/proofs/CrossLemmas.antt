@@ -6,7 +6,7 @@ use Rattle.auto_core.specs.Run.{PathBy, Path, end_of}
 use Rattle.auto_core.specs.Game.{MatchesForward, MayShow, Answers, Round, Stable, Holds, ArePairsBelow, IsWithin, IsGreatest, StableAcross}
 use Rattle.auto_core.proofs.MoveLemmas.{move_in_range}
 use Rattle.auto_core.proofs.MemberLemmas.{filter_has, filter_from, map_has, map_from}
-use Rattle.path_laws.proofs.AppliedLemmas.{across_includes}
+use Rattle.auto_laws.proofs.AppliedLemmas.{across_includes}
 use Rattle.cross_sim.specs.Cross.{IsGreatestSideBySide, HoldsGreatestAcross, CrossIncludes}
 use Rattle.bit_rel.specs.Relation.{Relation}
 use Rattle.cross_sim.specs.Sides.{IsSideBySide, Raises, Lowers, MatchesAcross, LeavesAcross}

@@ -2,11 +2,11 @@
 use Rattle.std.proofs.Common.{◌≡◌, ℕ, zero, suc, ◌+◌, ◌<◌, ◌≤◌, ◌⊎◌, inl, inr, List, [], ◌∷◌, ◌++◌, length, map, refl, subst, arith}
 use Rattle.cert_value.specs.declared.types.Row.{Row}
 use Rattle.cert_line.specs.Lines.{joined_runs}
-use Rattle.greatest_laws.proofs.DecisionLemmas.{decide_held}
-use Rattle.greatest_laws.proofs.GreatestLemmas.{greatest_across_is_there}
-use Rattle.relation_rows.specs.Rows.{HoldsFrom, AreRights, AreRows}
-use Rattle.relation_rows.proofs.RowLemmas.{rights_none, rights_more, rights_same, rows_none, rows_more, rows_same}
-use Rattle.cross_text.specs.declared.types.Cross.{Cross}
+use Rattle.auto_laws.proofs.DecisionLemmas.{decide_held}
+use Rattle.auto_laws.proofs.GreatestLemmas.{greatest_across_is_there}
+use Rattle.log_check.specs.Rows.{HoldsFrom, AreRights, AreRows}
+use Rattle.log_check.proofs.RowLemmas.{rights_none, rights_more, rights_same, rows_none, rows_more, rows_same}
+use Rattle.cert_text.specs.declared.cross.Cross.{Cross}
 use Rattle.cross_sim.specs.Cross.{HoldsGreatestAcross}
 use Rattle.cross_sim.specs.Written.{GreatestCrossIsThere}
 use Rattle.cross_sim.proofs.CrossLemmas.{raise, raised, raised_lowers}

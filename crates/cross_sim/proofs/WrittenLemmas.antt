@@ -3,15 +3,15 @@ use Rattle.std.proofs.Common.{◌≡◌, ◌↔◌, ℕ, ◌+◌, ◌<◌, ◌�
 use Rattle.std.proofs.lemmas.Bool.{and_from, lt-ltb}
 use Rattle.auto_core.specs.Automaton.{Automaton, Moves}
 use Rattle.auto_core.specs.Game.{Holds, MatchesForward, StableAcross, IsGreatestAcross}
-use Rattle.path_laws.proofs.GameLemmas.{round_more}
+use Rattle.auto_laws.proofs.GameLemmas.{round_more}
 use Rattle.ba_format.specs.declared.parts.Joined.{Joined}
 use Rattle.cert_value.specs.declared.types.Row.{Row}
 use Rattle.cert_value.specs.WellFormed.{is_short, are_rows}
 use Rattle.log_check.specs.Blocks.{pairs_of}
-use Rattle.relation_rows.specs.Rows.{HoldsFrom, AreRows}
-use Rattle.relation_rows.proofs.RowBoundLemmas.{rows_below}
-use Rattle.relation_rows.proofs.SameRowsLemmas.{one_rows}
-use Rattle.cross_text.specs.declared.types.Cross.{Cross}
+use Rattle.log_check.specs.Rows.{HoldsFrom, AreRows}
+use Rattle.log_check.proofs.RowBoundLemmas.{rows_below}
+use Rattle.log_check.proofs.SameRowsLemmas.{one_rows}
+use Rattle.cert_text.specs.declared.cross.Cross.{Cross}
 use Rattle.cross_sim.specs.Cross.{HoldsGreatestAcross}
 use Rattle.cross_sim.specs.Rules.{HasCrossSizes, pairs_across}
 use Rattle.cross_sim.specs.Written.{IsCrossOfGreatest, CrossIsOne, GreatestCrossKeepsRules}

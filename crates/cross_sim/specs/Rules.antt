@@ -11,11 +11,11 @@ use Rattle.cert_value.specs.declared.types.Run.{Run}
 use Rattle.log_check.specs.Blocks.{pairs_of}
 use Rattle.log_check.specs.Checks.{RuleCheck, AllHold, FirstBroken, rule_at}
 use Rattle.log_check.specs.Parts.{IsLook}
-use Rattle.cross_text.specs.declared.types.Cross.{Cross}
+use Rattle.cert_text.specs.declared.cross.Cross.{Cross}
 use Rattle.cross_sim.specs.declared.faults.CrossRefusal.{CrossRefusal}
 use Rattle.cross_sim.specs.declared.faults.CheckCrossFault.{CheckCrossFault}
 use Rattle.cross_sim.specs.declared.faults.CheckCrossFault.TheVariants.{Refused, Memory}
-use Rattle.cross_text.specs.Text.{block_of}
+use Rattle.cert_text.specs.CrossText.{block_of}
 
 -- The sizes are those of the two read automata and of their joined labels.
 abbrev pub HasCrossSizes : Joined → Cross → Type 0

@@ -2,8 +2,8 @@
 use Rattle.std.specs.Prelude.{◌≡◌, ℕ, ◌≤◌, length}
 use Rattle.auto_core.specs.Game.{Holds, IsGreatestAcross}
 use Rattle.ba_format.specs.declared.parts.Joined.{Joined}
-use Rattle.cross_text.specs.declared.types.Cross.{Cross}
-use Rattle.cross_text.specs.Text.{CrossFormed}
+use Rattle.cert_text.specs.declared.cross.Cross.{Cross}
+use Rattle.cert_text.specs.CrossText.{CrossFormed}
 use Rattle.cross_sim.specs.Rules.{HasCrossSizes, pairs_across, KeepsCrossRules}
 
 -- The cross relation that is written: it has a text, the sizes of the two automata and this

@@ -5,7 +5,7 @@ ghost use Rattle.auto_core.specs.Automaton.{IsAutomaton};
 ghost use Rattle.auto_core.specs.Accept.{Includes};
 ghost use Rattle.auto_core.specs.declared.parts.Mode.{Mode};
 ghost use Rattle.log_check.specs.Parts.{IsLook};
-ghost use Rattle.cross_text.specs.Text.{CrossFormed};
+ghost use Rattle.cert_text.specs.CrossText.{CrossFormed};
 ghost use Rattle.cross_sim.specs.Rules.{HasCrossSizes, IsRowInRange, AreRowsInRange, cross_pair_checks, TellsCross, KeepsCrossRules, BreaksCrossRule};
 ghost use Rattle.cross_sim.specs.Sides.{Raises};
 ghost use Rattle.cross_sim.specs.declared.faults.CrossRefusal.{CrossRefusal};
@@ -19,8 +19,8 @@ use crate::simulation::side_by_side;
 use auto_core::Memory;
 use ba_format::Joined;
 use bit_rel::Rel;
+use cert_text::Cross;
 use cert_value::Row;
-use cross_text::Cross;
 use log_check::{is_stable, relation_of};
 use std::alloc::Global;
 

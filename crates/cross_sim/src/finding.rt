@@ -2,7 +2,7 @@
 
 ghost use Rattle.std.specs.Prelude.{◌≡◌, ◌+◌, ◌^◌, ◌<◌, ◌≤◌, length, None, IfOk, IfSome};
 ghost use Rattle.auto_core.specs.Game.{Holds};
-ghost use Rattle.cross_text.specs.declared.types.Cross.{Cross};
+ghost use Rattle.cert_text.specs.declared.cross.Cross.{Cross};
 ghost use Rattle.cross_sim.specs.Rules.{pairs_across};
 ghost use Rattle.cross_sim.specs.Written.{IsCrossOfGreatest};
 
@@ -11,7 +11,7 @@ use crate::simulation::side_by_side;
 use crate::written::cross_within;
 use auto_core::Memory;
 use ba_format::Joined;
-use cross_text::Cross;
+use cert_text::Cross;
 use look_game::greatest_with;
 use std::alloc::Global;
 

@@ -9,8 +9,8 @@ ghost use Rattle.cross_sim.specs.Written.{IsCrossOfGreatest};
 use auto_core::Memory;
 use ba_format::Joined;
 use bit_rel::Rel;
-use cross_text::Cross;
-use relation_rows::rows_of;
+use cert_text::Cross;
+use log_check::rows_of;
 use std::alloc::Global;
 
 /// The cross relation of the pairs that lead into the second automaton's states, its right numbers

@@ -15,11 +15,11 @@ use Rattle.auto_core.specs.declared.parts.Mode.TheVariants.{Buchi, Finite}
 use Rattle.auto_core.specs.declared.parts.Origin.{Origin}
 use Rattle.auto_core.specs.declared.parts.Origin.TheVariants.{Start}
 use Rattle.auto_core.proofs.PathLemmas.{Contains-cons_cases, none_in_nil}
-use Rattle.search_laws.proofs.PlaceLemmas.{at_within}
-use Rattle.search_laws.proofs.EntryLemmas.{entry_is_real}
-use Rattle.search_laws.proofs.PairEntryLemmas.{entry_is_reached}
-use Rattle.search_laws.proofs.OutcomeLemmas.{apart_end, apart_separates, limit_lists}
-use Rattle.search_laws.proofs.PairOutcomeLemmas.{apart_end as apart_pair_end, apart_separates_word, limit_lists_pairs}
+use Rattle.auto_laws.proofs.PlaceLemmas.{at_within}
+use Rattle.auto_laws.proofs.EntryLemmas.{entry_is_real}
+use Rattle.auto_laws.proofs.PairEntryLemmas.{entry_is_reached}
+use Rattle.auto_laws.proofs.OutcomeLemmas.{apart_end, apart_separates, limit_lists}
+use Rattle.auto_laws.proofs.PairOutcomeLemmas.{apart_end as apart_pair_end, apart_separates_word, limit_lists_pairs}
 use Rattle.std.proofs.lemmas.Option.{get_or_from_slice_get}
 use Rattle.ba_format.specs.declared.parts.Joined.{Joined}
 use Rattle.cert_value.specs.declared.types.Cert.{Cert}
@@ -37,13 +37,13 @@ use Rattle.cert_check.specs.Listing.{AreDifferentListed}
 use Rattle.cert_check.proofs.ListingLemmas.{listed_in}
 use Rattle.decide.specs.declared.terms.Terms.{Terms}
 use Rattle.decide.specs.Terms.{AreBounded, IsVersioned}
-use Rattle.bound_laws.proofs.BoundLemmas.{listed_supergraphs_are_few, listed_pairs_are_few}
+use Rattle.auto_laws.proofs.BoundLemmas.{listed_supergraphs_are_few, listed_pairs_are_few}
 use Rattle.decide.specs.Searches.{rules_in, bound_in, NoneSubsumedBeforeIn}
 use Rattle.decide.specs.Answer.{IsOrder, Reductions, IsYesOf, IsListOf, IsLassoOf, IsWordOf, IsBodyOf, IsAnswer, IsAnswerBy}
 use Rattle.decide.specs.Laws.{CanDecide, AreSettledEnds, StandApart, ListsNew, AnswerIsTrue, AnswersAreFormed, AnswersAreValid, AnswersAreTrue}
 use Rattle.decide.proofs.EndLemmas.{AreGoodEnds, ends_in, good_ends}
 use Rattle.decide.proofs.PlaceLemmas.{all_from_places, pass_from_places}
-use Rattle.relation_rows.proofs.RowLemmas.{all_short}
+use Rattle.log_check.proofs.RowLemmas.{all_short}
 use Rattle.decide.proofs.YesLemmas.{rules_hold, elements_formed, cover_formed, count_formed, steps_formed, includes, stand_apart, parts_of_placed, IsPlacedIn}
 use Rattle.decide.proofs.ListLemmas.{list_holds, listed_differ}
 

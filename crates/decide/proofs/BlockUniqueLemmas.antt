@@ -13,7 +13,7 @@ use Rattle.cert_value.specs.WellFormed.{is_short, are_rows, rank_key, is_less, i
 use Rattle.delayed_sim.specs.Rankings.{Triple, row_key}
 use Rattle.log_check.specs.Blocks.{triples_of_row}
 use Rattle.decide.specs.Written.{IsBlockOfPairs, IsRankBlockOf}
-use Rattle.relation_rows.proofs.SameRowsLemmas.{same_rows}
+use Rattle.log_check.proofs.SameRowsLemmas.{same_rows}
 use Rattle.decide.proofs.RankRowLemmas.{first_one, rest_one, not_less_itself, in_triple, some_ranked}
 
 pub one_block : (S : List (ℕ × ℕ)) (b c : RelBlock) → IsBlockOfPairs S b → IsBlockOfPairs S c → b ≡ c

@@ -36,7 +36,7 @@ use Rattle.cert_value.specs.WellFormed.{is_short, are_rows, rank_key, is_rank_ro
 use Rattle.log_check.specs.Blocks.{IsBlockBelow, triples_of_row, IsRankRowBelow, IsRankBlockBelow}
 use Rattle.log_check.specs.Follows.{LogRules, StepFollows, Follows}
 use Rattle.decide.specs.Written.{IsBlockOfPairs, IsRankBlockOf, AreWritten}
-use Rattle.relation_rows.proofs.RowBoundLemmas.{rows_below}
+use Rattle.log_check.proofs.RowBoundLemmas.{rows_below}
 use Rattle.decide.proofs.RankRowLemmas.{in_triple, some_ranked}
 
 -- ---- lists that are written

@@ -8,7 +8,7 @@ use Rattle.auto_core.specs.declared.parts.Mode.{Mode}
 use Rattle.auto_core.specs.declared.parts.Mode.TheVariants.{Buchi, Finite}
 use Rattle.auto_core.specs.declared.parts.Origin.{Origin}
 use Rattle.auto_core.specs.declared.parts.Origin.TheVariants.{Start}
-use Rattle.search_laws.proofs.PlaceLemmas.{at_within}
+use Rattle.auto_laws.proofs.PlaceLemmas.{at_within}
 use Rattle.cert_value.specs.declared.types.Element.{Element}
 use Rattle.cert_value.specs.declared.types.ListBody.{ListBody}
 use Rattle.cert_value.specs.declared.types.Mark.TheVariants.{Live}

@@ -5,7 +5,7 @@ use Rattle.std.specs.List.{list_all, range_with_len}
 use Rattle.std.proofs.lemmas.Bool.{and_from}
 use Rattle.std.proofs.lemmas.Option.{get_or_from_slice_get}
 use Rattle.auto_core.specs.Outcome.{At}
-use Rattle.search_laws.proofs.PlaceLemmas.{at_some}
+use Rattle.auto_laws.proofs.PlaceLemmas.{at_some}
 use Rattle.log_check.specs.Checks.{RuleCheck, AllHold, checks_of_each}
 use Rattle.log_check.proofs.CheckLemmas.{all_join}
 

@@ -22,7 +22,7 @@ use Rattle.delayed_sim.specs.Rankings.{Triple, Ranking, IsRanking, IsTripleBefor
 use Rattle.log_check.specs.Blocks.{triples_of_row}
 use Rattle.decide.specs.Written.{IsRankBlockOf}
 use Rattle.decide.specs.Rows.{HasFewTriples, IsRankRowOf, AreRankRows, ranked_of_triple, code_for, last_row_key}
-use Rattle.relation_rows.proofs.RowLemmas.{all_short}
+use Rattle.log_check.proofs.RowLemmas.{all_short}
 
 -- ---- lists
 

@@ -42,7 +42,7 @@ use Rattle.cert_value.specs.declared.types.RelBlock.{RelBlock}
 use Rattle.cert_value.specs.declared.types.RankBlock.{RankBlock}
 use Rattle.cert_value.specs.WellFormed.{is_short, are_short, has_some, ascend, ascend_from, is_block, is_rank_block, gone_of, is_gone, are_gone, are_kept, are_classes, blocks_due, is_first_step, are_letters, are_grounds, is_second_step}
 use Rattle.decide.specs.Written.{given, AreWritten, AreBlocksOf, gone_and_better, IsFirstWritten, IsSecondWritten, AreFirstWritten, AreSecondWritten}
-use Rattle.relation_rows.proofs.RowLemmas.{all_short}
+use Rattle.log_check.proofs.RowLemmas.{all_short}
 use Rattle.decide.proofs.FollowLemmas.{IsPair, pair_listed, listed_better, cut_leads}
 use Rattle.decide.proofs.FollowFirstLemmas.{cut_blocks, gone_numbers}
 

@@ -6,8 +6,8 @@ use Rattle.auto_core.specs.declared.parts.Lasso.{Lasso}
 use Rattle.auto_core.specs.declared.parts.Mode.{Mode}
 use Rattle.auto_core.specs.declared.parts.Mode.TheVariants.{Buchi, Finite}
 use Rattle.bit_rel.proofs.PairLemmas.{same_pairs}
-use Rattle.search_laws.proofs.OutcomeLemmas.{one_outcome}
-use Rattle.search_laws.proofs.PairOutcomeLemmas.{one_pair_outcome}
+use Rattle.auto_laws.proofs.OutcomeLemmas.{one_outcome}
+use Rattle.auto_laws.proofs.PairOutcomeLemmas.{one_pair_outcome}
 use Rattle.ba_format.specs.declared.parts.Joined.{Joined}
 use Rattle.cert_value.specs.declared.types.Cert.{Cert}
 use Rattle.cert_value.specs.declared.types.Body.{Body}

@@ -10,8 +10,8 @@ use Rattle.cert_value.specs.declared.types.RelBlock.{RelBlock}
 use Rattle.cert_value.specs.declared.types.Row.{Row}
 use Rattle.cert_value.specs.WellFormed.{is_short, are_rows}
 use Rattle.log_check.specs.Blocks.{pairs_of_row}
-use Rattle.relation_rows.specs.Rows.{HoldsFrom, AreRows}
-use Rattle.relation_rows.proofs.RowLemmas.{rows_ascend}
+use Rattle.log_check.specs.Rows.{HoldsFrom, AreRows}
+use Rattle.log_check.proofs.RowLemmas.{rows_ascend}
 use Rattle.decide.specs.Written.{IsBlockOfPairs, AreWritten, AreBlocksOf, given}
 use Rattle.decide.specs.Logs.{one_given}
 

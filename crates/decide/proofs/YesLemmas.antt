@@ -18,13 +18,13 @@ use Rattle.auto_core.specs.declared.parts.Mode.TheVariants.{Buchi, Finite}
 use Rattle.auto_core.specs.declared.parts.Origin.{Origin}
 use Rattle.auto_core.specs.declared.parts.Origin.TheVariants.{Start, Base, Next}
 use Rattle.auto_core.specs.declared.parts.Trans.{Trans}
-use Rattle.search_laws.specs.Outcomes.{HaveOrigins}
-use Rattle.search_laws.specs.PairOutcomes.{HavePairOrigins}
-use Rattle.search_laws.proofs.PlaceLemmas.{at_within, at_some}
-use Rattle.search_laws.proofs.ListLemmas.{read_map}
-use Rattle.search_laws.proofs.PlacingLemmas.{arcs_size, arc_here}
-use Rattle.search_laws.proofs.OutcomeLemmas.{origins_fit, closed_end, closed_list_is_closed_set, closed_list_includes, live_ones_stand_apart}
-use Rattle.search_laws.proofs.PairOutcomeLemmas.{pair_origins_fit, closed_end as closed_pairs_end, closed_list_is_closed_pairs, closed_list_includes_words, live_pairs_stand_apart}
+use Rattle.auto_laws.specs.Outcomes.{HaveOrigins}
+use Rattle.auto_laws.specs.PairOutcomes.{HavePairOrigins}
+use Rattle.auto_laws.proofs.PlaceLemmas.{at_within, at_some}
+use Rattle.auto_laws.proofs.ListLemmas.{read_map}
+use Rattle.auto_laws.proofs.PlacingLemmas.{arcs_size, arc_here}
+use Rattle.auto_laws.proofs.OutcomeLemmas.{origins_fit, closed_end, closed_list_is_closed_set, closed_list_includes, live_ones_stand_apart}
+use Rattle.auto_laws.proofs.PairOutcomeLemmas.{pair_origins_fit, closed_end as closed_pairs_end, closed_list_is_closed_pairs, closed_list_includes_words, live_pairs_stand_apart}
 use Rattle.cert_value.specs.declared.types.YesBody.{YesBody}
 use Rattle.cert_value.specs.declared.types.Element.{Element}
 use Rattle.cert_value.specs.declared.types.Mark.{Mark}

@@ -7,7 +7,7 @@ use Rattle.auto_core.specs.PairOutcome.{pair_rules}
 use Rattle.auto_core.specs.declared.parts.Mode.{Mode}
 use Rattle.auto_core.specs.declared.parts.Mode.TheVariants.{Buchi, Finite}
 use Rattle.auto_core.specs.declared.parts.Origin.{Origin}
-use Rattle.bound_laws.specs.Bounds.{supergraph_bound, pair_bound}
+use Rattle.auto_laws.specs.Bounds.{supergraph_bound, pair_bound}
 use Rattle.evidence.specs.Evidence.{entry_at}
 
 -- The rules of the search.

@@ -43,58 +43,8 @@ fn list_of(logs: Logs, terms: Terms, origins: List<Origin>) -> Body
     })
 }
 
-/// The body for how the search over supergraphs ends, behind these logs.
-fn lasso_body(
-    alloc: Global,
-    first: &Auto,
-    second: &Auto,
-    order: &Rel,
-    terms: Terms,
-    logs: Logs,
-) -> Result<Body, Memory>
-    requires mode { terms.mode ≡ Buchi }
-    requires few { order.now.size ≤ 512 }
-    requires labels { first.now.labels ≡ second.now.labels }
-    requires order_size { order.now.size ≡ second.now.states }
-    requires greatest { IsGreatestForward second.now 1 order.now.pairs }
-    requires limit_from { 1 ≤ terms.limit }
-    requires limit_upto { terms.limit ≤ 100000 }
-    ensures { IfOk result (IsFoundBody first.now second.now logs terms order.now.pairs) }
-{
-    match ramsey_search::search(alloc, first, second, order, terms.limit)? {
-        Outcome::Closed(closure) => yes_of(alloc, logs, closure, order),
-        Outcome::Apart(lasso) => Ok(Body::NoLasso(lasso)),
-        Outcome::Limit(origins) => Ok(list_of(logs, terms, origins)),
-    }
-}
-
-/// The body for how the search over pairs of a state and a set ends, behind these logs.
-fn word_body(
-    alloc: Global,
-    first: &Auto,
-    second: &Auto,
-    order: &Rel,
-    terms: Terms,
-    logs: Logs,
-) -> Result<Body, Memory>
-    requires mode { terms.mode ≡ Finite }
-    requires few { order.now.size ≤ 512 }
-    requires labels { first.now.labels ≡ second.now.labels }
-    requires order_size { order.now.size ≡ second.now.states }
-    requires greatest { IsGreatestForward second.now 1 order.now.pairs }
-    requires limit_from { 1 ≤ terms.limit }
-    requires limit_upto { terms.limit ≤ 100000 }
-    ensures { IfOk result (IsFoundBody first.now second.now logs terms order.now.pairs) }
-{
-    match antichain::search(alloc, first, second, order, terms.limit)? {
-        WordOutcome::Closed(closure) => yes_of(alloc, logs, closure, order),
-        WordOutcome::Apart(word) => Ok(Body::NoWord(word)),
-        WordOutcome::Limit(origins) => Ok(list_of(logs, terms, origins)),
-    }
-}
-
-/// The body of the certificate for how the search of the mode ends on the two automata, behind
-/// these logs.
+/// The body of the certificate for how the search of the mode ends on the two automata, over
+/// supergraphs or over pairs of a state and a set, behind these logs.
 pub(crate) fn body_of(
     alloc: Global,
     first: &Auto,
@@ -112,7 +62,15 @@ pub(crate) fn body_of(
     ensures { IfOk result (IsFoundBody first.now second.now logs terms order.now.pairs) }
 {
     match terms.mode {
-        Mode::Buchi => lasso_body(alloc, first, second, order, terms, logs),
-        Mode::Finite => word_body(alloc, first, second, order, terms, logs),
+        Mode::Buchi => match ramsey_search::search(alloc, first, second, order, terms.limit)? {
+            Outcome::Closed(closure) => yes_of(alloc, logs, closure, order),
+            Outcome::Apart(lasso) => Ok(Body::NoLasso(lasso)),
+            Outcome::Limit(origins) => Ok(list_of(logs, terms, origins)),
+        },
+        Mode::Finite => match antichain::search(alloc, first, second, order, terms.limit)? {
+            WordOutcome::Closed(closure) => yes_of(alloc, logs, closure, order),
+            WordOutcome::Apart(word) => Ok(Body::NoWord(word)),
+            WordOutcome::Limit(origins) => Ok(list_of(logs, terms, origins)),
+        },
     }
 }

@@ -19,11 +19,15 @@ use crate::terms::Terms;
 use auto_core::{Memory, Mode};
 use ba_format::Joined;
 use cert_value::Cert;
-use reduce_loop::reduce_ahead;
+use reduce_loop::{Foresight, reduce_ahead, reduce_ordered};
 use std::alloc::Global;
 
-/// The answer by the terms.
-fn answer(alloc: Global, pair: &Joined, terms: Terms) -> Result<Cert, Memory>
+/// The answer by the terms: whether the second automaton accepts each lasso, in finite mode each
+/// word, that the first accepts. Both are reduced, and the reduced ones are searched. The
+/// certificate has a yes with the evidence of a closed set, a no with a lasso or word that separates
+/// the two, or the list of limit + 1 supergraphs, in finite mode pairs of a state and a set, where
+/// the limit was met. A yes and a list have the logs of both reductions.
+pub fn answer(alloc: Global, pair: &Joined, terms: Terms) -> Result<Cert, Memory>
     requires first_labels { pair.now.first.labels ≡ length pair.now.labels }
     requires second_labels { pair.now.second.labels ≡ length pair.now.labels }
     requires few_labels { length pair.now.labels ≤ 512 }
@@ -72,9 +76,12 @@ fn answer(alloc: Global, pair: &Joined, terms: Terms) -> Result<Cert, Memory>
 {
     let first_states = pair.first.states();
     let second_states = pair.second.states();
+    let sight = Foresight {
+        look: terms.look,
+        letters: terms.letters,
+    };
     let first = reduce_ahead(alloc, &pair.first, terms.mode, terms.look, terms.letters)?;
-    let second = reduce_ahead(alloc, &pair.second, terms.mode, terms.look, terms.letters)?;
-    let order = direct_sim::relation(alloc, &second.auto, 1)?;
+    let second = reduce_ordered(alloc, &pair.second, terms.mode, sight)?;
     let logs = logs_of(alloc, first.log.as_slice(), second.log.as_slice())?;
     Ok(Cert {
         version: terms.version,
@@ -82,16 +89,11 @@ fn answer(alloc: Global, pair: &Joined, terms: Terms) -> Result<Cert, Memory>
         first_states,
         second_states,
         labels: pair.labels.count(),
-        body: body_of(alloc, &first.auto, &second.auto, &order, terms, logs)?,
+        body: body_of(alloc, &first.auto, &second.auto, &second.order, terms, logs)?,
     })
 }
 
-/// Decides whether the second automaton accepts each lasso, in finite mode each word, that the
-/// first accepts. Both are reduced at the lookahead, and the reduced ones are searched. The
-/// certificate is the answer, in version 1: a yes with the evidence of a closed set, a no with a
-/// lasso or word that separates the two, or the list of limit + 1 supergraphs, in finite mode pairs
-/// of a state and a set, where the limit was met. A yes and a list have the logs of both
-/// reductions.
+/// The answer in version 1, by terms that ask for one letter in the delayed games.
 pub fn include(
     alloc: Global,
     pair: &Joined,
@@ -162,8 +164,7 @@ pub fn include(
     )
 }
 
-/// The same with so many letters asked for in the delayed games of the reductions, and the answer
-/// in version 2.
+/// The answer in version 2, by terms that ask for so many letters in the delayed games.
 pub fn include_ahead(
     alloc: Global,
     pair: &Joined,

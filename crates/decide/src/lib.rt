@@ -8,5 +8,5 @@ mod logs;
 mod rows;
 mod terms;
 
-pub use deciding::{include, include_ahead};
+pub use deciding::{answer, include, include_ahead};
 pub use terms::Terms;

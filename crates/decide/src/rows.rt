@@ -9,8 +9,7 @@ use auto_core::{List, Memory};
 use bit_rel::Rel;
 use cert_value::{RankBlock, RankRow, Ranked, RelBlock};
 use delayed_sim::Delayed;
-use log_check::copied_numbers;
-use relation_rows::rows_of;
+use log_check::{copied_numbers, rows_of};
 use std::alloc::Global;
 
 /// A row for each state that the relation holds with some state.

@@ -10,7 +10,7 @@ use Rattle.auto_core.specs.Game.{Holds}
 use Rattle.auto_core.proofs.BitLemmas.{bit_past}
 use Rattle.delayed_game.specs.Pairings.{Pairing, IsPairing, Removes}
 use Rattle.delayed_game.proofs.BoardLemmas.{fewer_pairs, no_more_pairs}
-use Rattle.row_steps.specs.Walks.{IsNextBit}
+use Rattle.bit_rows.specs.Walks.{IsNextBit}
 use Rattle.delayed_game.specs.Levels.{rank_in_table}
 use Rattle.auto_core.specs.Delayed.{rank_in_code}
 use Rattle.delayed_game.specs.Before.{LeadsTo}

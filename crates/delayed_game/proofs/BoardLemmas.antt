@@ -1,5 +1,5 @@
 -- Relations from places to states that tables of bits stand for.
-use Rattle.std.proofs.Common.{◌≡◌, ℕ, zero, suc, ◌+◌, ◌*◌, ◌/◌, ◌<◌, ◌≤◌, ◌⊎◌, ◌↔◌, inl, inr, Bool, true, false, ◌&&◌, cond, List, [], ◌∷◌, length, refl, sym, ◌∙◌, subst, arith, length-append}
+use Rattle.std.proofs.Common.{◌≡◌, ℕ, zero, suc, ◌+◌, ◌*◌, ◌/◌, ◌<◌, ◌≤◌, ◌⊎◌, ◌↔◌, inl, inr, Bool, true, false, ◌&&◌, cond, List, [], ◌∷◌, length, get_or, refl, sym, ◌∙◌, subst, arith, length-append}
 use Rattle.std.proofs.lemmas.Bool.{cases_eq, cases_lt, and_from, and_parts, false≢true}
 use Rattle.auto_core.specs.Rows.{bit_of, cell_of, HasBit, HasCell}
 use Rattle.auto_core.specs.Game.{Holds, IsWithin}
@@ -7,6 +7,7 @@ use Rattle.bit_rel.specs.Relation.{Relation, IsRelation}
 use Rattle.bit_rel.specs.Stored.{pairs_in_row, pairs_below}
 use Rattle.bit_rel.proofs.LengthLemmas.{fewer, no_more}
 use Rattle.bit_rel.proofs.PairLemmas.{pairs_hold, pairs_have, pairs_ascend}
+use Rattle.bit_rows.proofs.WordLemmas.{bit_of_zero_word}
 use Rattle.delayed_game.specs.Pairings.{Pairing, IsPairing, Removes, IsNarrowed, table_pairing}
 
 -- ---- the number of pairs
@@ -219,4 +220,36 @@ rows_have R words table w m valid room h x q x_in = (
   λ held.
       let lt = (valid.in_range (x / words) q held).1 in
       cell_held table w m R.size x q x_in lt ((h x q x_in (omega arith)).1 held),
+)
+
+-- ---- each place with each state
+
+-- The first rows have just the bits below the number.
+abbrev pub HasFullRows : ℕ → List ℕ → ℕ → ℕ → Type 0
+HasFullRows n table w upto = (y q : ℕ) → y < upto → q < w * 64 → HasCell table w y q ↔ (q < n)
+
+pub full_more :
+    (n : ℕ) (old new row : List ℕ) (w x : ℕ)
+    → HasFullRows n old w x
+    → ((q : ℕ) → HasBit row q ↔ (q < n))
+    → ((q : ℕ) → q < w * 64 → cell_of new w x q ≡ bit_of row q)
+    → ((r q : ℕ) → q < w * 64 → ¬ (r ≡ x) → cell_of new w r q ≡ cell_of old w r q)
+    → HasFullRows n new w (x + 1)
+full_more n old new row w x h bits here others y q lt near = elim (cases_eq y x) [
+  | inl e ↦
+      let P : ℕ → Type 0 = λ z. HasCell new w z q ↔ (q < n) in
+      subst P (sym e) (λ cell. (bits q).0 (sym (here q near) ∙ cell), λ below. here q near ∙ (bits q).1 below)
+  | inr apart ↦
+      let was = h y q (omega arith) near in
+      (λ cell. was.0 (sym (others y q near apart) ∙ cell), λ below. others y q near apart ∙ was.1 below)
+]
+
+pub full_has : (n : ℕ) (table : List ℕ) (w m : ℕ) → n ≤ w * 64 → HasFullRows n table w m → (x q : ℕ) → x < m → q < n → Holds (table_pairing table w m n).pairs x q
+full_has n table w m room h x q x_in q_in = cell_held table w m n x q x_in q_in ((h x q x_in (omega arith)).1 q_in)
+
+-- A row without bits gets those below a number.
+pub full_bits : (n : ℕ) (old new : List ℕ) → ((i : ℕ) → get_or old i 0 ≡ 0) → ((i : ℕ) → HasBit new i ↔ ((i < n) ⊎ HasBit old i)) → (q : ℕ) → HasBit new q ↔ (q < n)
+full_bits n old new none marked q = (
+  λ bit. elim ((marked q).0 bit) [ inl lt ↦ lt | inr was ↦ absurd (false≢true (sym (bit_of_zero_word old q (none (q / 64))) ∙ was)) ],
+  λ lt. (marked q).1 (inl lt),
 )

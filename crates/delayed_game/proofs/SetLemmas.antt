@@ -9,7 +9,7 @@ use Rattle.auto_core.specs.Automaton.{Automaton, IsAutomaton, Moves}
 use Rattle.auto_core.specs.Rows.{bit_of, cell_of, HasBit, HasCell}
 use Rattle.auto_core.proofs.BitLemmas.{bit_or_tests, bit_past}
 use Rattle.auto_core.proofs.MoveLemmas.{move_in_range}
-use Rattle.row_steps.specs.Walks.{IsNextBit}
+use Rattle.bit_rows.specs.Walks.{IsNextBit}
 use Rattle.delayed_game.specs.Before.{LeadsTo, LeadsToSet, LeadsToFour, IsSetTable}
 
 -- ---- marks of rows

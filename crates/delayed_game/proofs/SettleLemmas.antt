@@ -7,7 +7,7 @@ use Rattle.auto_core.specs.Game.{Holds}
 use Rattle.delayed_game.specs.Across.{HoldsPlacePair}
 use Rattle.delayed_game.specs.Pairings.{Pairing, IsPairing, IsNarrowed, Removes}
 use Rattle.delayed_game.proofs.BoardLemmas.{fewer_pairs}
-use Rattle.row_steps.specs.Walks.{IsNextBit}
+use Rattle.bit_rows.specs.Walks.{IsNextBit}
 use Rattle.delayed_game.specs.Settling.{AnswersAll, TakesAway, IsFiltered, IsAnsweredIn, IsAnsweredInto, IsAnsweredBesides, IsPlaceUnderWay, Tries}
 
 -- what a bit of the row of p says of a pair

@@ -8,7 +8,7 @@ ghost use Rattle.delayed_game.specs.Before.{LeadsTo, AreSetsIfAny};
 
 use crate::sets::mark_ends_by;
 use auto_core::{Auto, rows};
-use row_steps::{clear_table_row, next_bit};
+use bit_rows::{clear_table_row, next_bit};
 
 /// Clears the rows of the letters by which moves lead to the place.
 fn clear_letters(places: &Auto, to: u32, made: &mut [u64], width: usize)

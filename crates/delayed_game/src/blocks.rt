@@ -8,7 +8,7 @@ ghost use Rattle.delayed_game.specs.Before.{LeadsToColumn};
 ghost use Rattle.delayed_game.specs.Boards.{HasFreshAnswer};
 
 use auto_core::{Auto, rows};
-use transposed::transpose;
+use bit_rows::transpose;
 
 /// One column for each bit of a word.
 const COLUMNS: usize = 64;

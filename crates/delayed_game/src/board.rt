@@ -1,6 +1,6 @@
 //! Relations from places to states, as rows of bits.
 
-ghost use Rattle.std.specs.Prelude.{◌≡◌, ◌+◌, ◌*◌, ◌/◌, ◌^◌, ◌<◌, ◌↔◌, ℕ, length, IfOk};
+ghost use Rattle.std.specs.Prelude.{◌≡◌, ◌+◌, ◌*◌, ◌/◌, ◌^◌, ◌<◌, ◌↔◌, ℕ, length, slice_index, IfOk};
 ghost use Rattle.auto_core.specs.Game.{Holds};
 ghost use Rattle.auto_core.specs.Rows.{HasBit};
 ghost use Rattle.bit_rel.specs.Relation.{IsRelation};
@@ -8,7 +8,7 @@ ghost use Rattle.delayed_game.specs.Pairings.{IsPairing, Removes, IsNarrowed};
 
 use auto_core::{Memory, rows};
 use bit_rel::Rel;
-use row_steps::{and_row, write_row};
+use bit_rows::{and_row, mark_below, write_row};
 use std::alloc::Global;
 use std::marker::Model;
 
@@ -19,6 +19,24 @@ pub(crate) fn bits_in(row: &[u64]) -> usize {
         count = count.saturating_add(row[at].count_ones() as usize);
     }
     count
+}
+
+/// A row of so many words that has no bit.
+fn empty_row(alloc: Global, width: usize) -> Result<Vec<u64>, Memory>
+    ensures len { IfOk result (λ v. length v.items ≡ width) }
+    ensures none { IfOk result (λ v. (i : ℕ) → slice_index v.items i ≡ 0) }
+{
+    Ok(vec![in alloc; 0; width]?)
+}
+
+/// A row that has just the bits below the number.
+fn full_row(alloc: Global, states: u32) -> Result<Vec<u64>, Memory>
+    ensures len { IfOk result (λ v. length v.items ≡ (states + 63) / 64) }
+    ensures bits { IfOk result (λ v. (q : ℕ) → HasBit v.items q ↔ (q < states)) }
+{
+    let mut row = empty_row(alloc, rows::words_for(states))?;
+    mark_below(&mut row, states);
+    Ok(row)
 }
 
 /// A relation from the places below a number to the states below another. Contracts see it as a
@@ -63,6 +81,28 @@ impl Board {
         let mut table = vec![in alloc; 0; places as usize * width]?;
         for x in 0..places {
             write_row(&mut table, width, x as usize, rel.row(x / words));
+        }
+        Ok(Board {
+            places,
+            states,
+            width,
+            table,
+        })
+    }
+
+    /// A relation where each of so many places has each of so many states.
+    pub fn full(alloc: Global, places: u32, states: u32) -> Result<Board, Memory>
+        ensures places { IfOk result (λ b. b.places ≡ places) }
+        ensures states { IfOk result (λ b. b.states ≡ states) }
+        ensures valid { IfOk result IsPairing }
+        ensures pairs { IfOk
+            result (λ b. (x q : ℕ) → x < places → q < states → Holds b.pairs x q) }
+    {
+        let width = rows::words_for(states);
+        let row = full_row(alloc, states)?;
+        let mut table = vec![in alloc; 0; places as usize * width]?;
+        for x in 0..places {
+            write_row(&mut table, width, x as usize, &row);
         }
         Ok(Board {
             places,

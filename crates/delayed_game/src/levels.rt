@@ -15,7 +15,7 @@ use crate::blocks::note_by_blocks;
 use crate::board::{Board, bits_in};
 use crate::pairs::pair_number;
 use auto_core::{Auto, Memory, rows};
-use row_steps::{and_row, next_bit, write_row};
+use bit_rows::{and_row, next_bit, write_row};
 use std::alloc::Global;
 
 /// Gives the rank to the pairs of the place with the states of the row, all of which are unranked.

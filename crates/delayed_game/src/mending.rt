@@ -7,7 +7,7 @@ ghost use Rattle.auto_core.specs.Rows.{bit_of, HasBit, HasCell};
 ghost use Rattle.delayed_game.specs.Before.{LeadsTo};
 
 use auto_core::{Auto, rows};
-use row_steps::next_bit;
+use bit_rows::next_bit;
 
 /// Sets each bit of the row.
 fn fill_row(row: &mut [u64])

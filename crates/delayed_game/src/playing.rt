@@ -16,7 +16,7 @@ use crate::pairs::pair_number;
 use crate::sets::sets_of;
 use crate::settling::settle;
 use auto_core::{Auto, Memory, rows};
-use row_steps::{mark_below, next_bit};
+use bit_rows::{mark_below, next_bit};
 use std::alloc::Global;
 
 /// A row has many pairs if it has so many.

@@ -10,7 +10,7 @@ ghost use Rattle.delayed_game.specs.Before.{LeadsTo, LeadsToSet, LeadsToFour, Is
 use crate::before::{mark_before, mark_ends};
 use crate::board::bits_in;
 use auto_core::{Auto, Memory, rows};
-use row_steps::{next_bit, write_row};
+use bit_rows::{next_bit, write_row};
 use std::alloc::Global;
 
 /// A table is made where a row has at most so many words.

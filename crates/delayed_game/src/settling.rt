@@ -13,7 +13,7 @@ use crate::before::write_before;
 use crate::board::{Board, bits_in};
 use crate::mending::mend_before;
 use auto_core::{Auto, rows};
-use row_steps::write_row;
+use bit_rows::write_row;
 
 /// Rows are mended where the states that were lost are fewer than one of so many that are left.
 const FEW_LOST: usize = 4;

@@ -7,8 +7,8 @@ use Rattle.auto_core.specs.Run.{Path}
 use Rattle.auto_core.specs.Game.{AllMatched, MatchesForward}
 use Rattle.auto_core.specs.Delayed.{Announces, IsTripleWord}
 use Rattle.auto_core.proofs.MoveLemmas.{move_in_range}
-use Rattle.path_laws.specs.Transfer.{AllMatchedWithin, FollowsWithin}
-use Rattle.path_laws.proofs.TransferLemmas.{delayed_transfer}
+use Rattle.auto_laws.specs.Transfer.{AllMatchedWithin, FollowsWithin}
+use Rattle.auto_laws.proofs.TransferLemmas.{delayed_transfer}
 use Rattle.delayed_game.specs.Across.{RankedPlacePairs, HoldsPlacePair, IsRightAcross}
 use Rattle.delayed_laws.specs.Announced.{ArePlacesOf, DelayedPlacesInclude}
 use Rattle.delayed_laws.proofs.FollowLemmas.{follow_within, rank_sum, rank_within}

@@ -5,9 +5,9 @@ use Rattle.std.proofs.lemmas.Bool.{cases_Bool, false≢true}
 use Rattle.std.proofs.Common.{get_or, ◌≡◌, ℕ, zero, suc, ◌≤◌, Option, None, Some, List, [], ◌∷◌, sym, ap, ◌∙◌, inl, inr, arith}
 use Rattle.auto_core.specs.Automaton.{Automaton, IsAccepting, is_accepting, Moves}
 use Rattle.auto_core.specs.Run.{Path}
-use Rattle.path_laws.specs.Transfer.{AcceptsWithin, AllMatchedWithin}
+use Rattle.auto_laws.specs.Transfer.{AcceptsWithin, AllMatchedWithin}
 use Rattle.auto_core.proofs.PathLemmas.{accepting_from_test, test_from_accepting}
-use Rattle.path_laws.proofs.TransferLemmas.{delayed_transfer}
+use Rattle.auto_laws.proofs.TransferLemmas.{delayed_transfer}
 use Rattle.delayed_game.specs.Across.{RankedPlacePairs, HoldsPlacePair, HasPlacePairRank, IsRightAcross}
 use Rattle.delayed_laws.specs.Across.{DelayedAcrossIncludes}
 

@@ -13,7 +13,7 @@ use Rattle.auto_core.specs.Rows.{bit_of, HasBit}
 use Rattle.auto_core.specs.Delayed.{RankedTriples, IsTripleWord}
 use Rattle.auto_core.proofs.PathLemmas.{none_in_nil}
 use Rattle.bit_rel.specs.Relation.{IsPairBefore}
-use Rattle.row_steps.specs.Walks.{IsNextBit}
+use Rattle.bit_rows.specs.Walks.{IsNextBit}
 use Rattle.delayed_sim.specs.declared.entries.Entry.{Entry}
 use Rattle.delayed_sim.specs.Stored.{triple_of, entry_triples}
 use Rattle.delayed_sim.specs.Rankings.{Triple, row_key, IsTripleBefore}

@@ -9,8 +9,8 @@ ghost use Rattle.delayed_sim.specs.Words.{digits, ListsTriplesBefore};
 use crate::entries::Entry;
 use crate::words::{letters_of, word_count};
 use auto_core::Memory;
+use bit_rows::next_bit;
 use delayed_game::{Board, pair_number};
-use row_steps::next_bit;
 use std::alloc::Global;
 
 /// The rank for which this number stands, in a table or in a certificate: one less, and none where

@@ -10,7 +10,7 @@ ghost use Rattle.delayed_sim.specs.Related.{HoldsEach};
 use crate::delayed::Delayed;
 use auto_core::{Memory, rows};
 use bit_rel::Rel;
-use row_steps::{and_row, mark_below};
+use bit_rows::{and_row, mark_below};
 use std::alloc::Global;
 
 /// Marks the right states of the triples of the left state with the word.

@@ -8,7 +8,7 @@ use Rattle.auto_core.specs.Automaton.{Automaton, IsAutomaton, Moves}
 use Rattle.auto_core.specs.Run.{Path}
 use Rattle.auto_core.specs.Game.{MatchesForward, Answers, Round, Holds, ArePairsBelow, StableForward}
 use Rattle.look_game.proofs.SameLemmas.{same_below, same_holds, same_has}
-use Rattle.path_laws.proofs.AppliedLemmas.{followed_forward}
+use Rattle.auto_laws.proofs.AppliedLemmas.{followed_forward}
 use Rattle.direct_sim.specs.Preorders.{GreatestForwardIsOne, GreatestForwardIsFollowed, GreatestFollowsMoves, GreatestForwardIsReflexive, GreatestIsPreorder}
 
 pub greatest_is_one : GreatestForwardIsOne

@@ -4,7 +4,7 @@ use Rattle.auto_core.specs.Automaton.{Automaton, IsAutomaton, Moves}
 use Rattle.auto_core.specs.Run.{Path}
 use Rattle.auto_core.specs.Game.{MatchesForward, Holds, Close, IsGreatestForward}
 use Rattle.bit_rel.specs.Relation.{Relation, IsClosed, IsPreorder}
-use Rattle.path_laws.specs.Games.{IsFollowed}
+use Rattle.auto_laws.specs.Games.{IsFollowed}
 
 -- The relation is the closure of the greatest forward relation on the automaton's states.
 pub record IsGreatestForwardClosed (A : Automaton) (k : ℕ) (R : Relation) : Type 0 where

@@ -5,8 +5,8 @@ use Rattle.auto_core.specs.Automaton.{Automaton}
 use Rattle.auto_core.specs.Graph.{WordArc, arcs_of}
 use Rattle.auto_core.specs.Outcome.{Rules, At, Entry, StaysLive, origins_in, arcs_in}
 use Rattle.cert_value.specs.declared.types.Element.{Element}
-use Rattle.search_laws.proofs.PlaceLemmas.{at_within, at_some}
-use Rattle.search_laws.proofs.ArcLemmas.{related_here}
+use Rattle.auto_laws.proofs.PlaceLemmas.{at_within, at_some}
+use Rattle.auto_laws.proofs.ArcLemmas.{related_here}
 use Rattle.evidence.specs.declared.parts.Closure.{Closure}
 use Rattle.evidence.specs.Evidence.{IsEvidenceOf, LiveStandApart, entry_at, marked_live}
 use Rattle.evidence.proofs.MarkLemmas.{marks_tell}

@@ -3,7 +3,7 @@ use Rattle.std.proofs.Common.{◌≡◌, ℕ, ◌+◌, ◌<◌, ◌⊎◌, Bool,
 use Rattle.std.proofs.lemmas.Bool.{cases_eq, cases_lt}
 use Rattle.std.proofs.lemmas.List.{get_or-set_other, get_or-set_same, length-set}
 use Rattle.auto_core.specs.Outcome.{At}
-use Rattle.search_laws.proofs.PlaceLemmas.{at_same}
+use Rattle.auto_laws.proofs.PlaceLemmas.{at_same}
 
 -- The flags so far: those of the elements that are subsumed, of the first numbers, are taken away.
 pub record AreDroppedSoFar {H : Type 0} (Subsumed : H → Type 0) (Drops : ℕ → Type 0) (held : List H) (numbers : List ℕ) (old new : List Bool) (count : ℕ) : Type 0 where

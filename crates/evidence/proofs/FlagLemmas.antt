@@ -3,7 +3,7 @@ use Rattle.std.proofs.Common.{◌≡◌, ℕ, ◌+◌, ◌<◌, ◌⊎◌, Bool,
 use Rattle.std.proofs.lemmas.Bool.{cases_lt, false≢true}
 use Rattle.std.proofs.lemmas.List.{get_or_append_left, get_or-append-add}
 use Rattle.auto_core.specs.Outcome.{At, Entry, Rules, StaysLive, IsDropped, TellsLive}
-use Rattle.search_laws.proofs.PlaceLemmas.{at_within, at_more, at_new, at_cases, at_before}
+use Rattle.auto_laws.proofs.PlaceLemmas.{at_within, at_more, at_new, at_cases, at_before}
 
 -- One more flag behind.
 pub flag_before : (flags : List Bool) (i : ℕ) → i < length flags → slice_index_or (flags ++ true ∷ []) i false ≡ slice_index_or flags i false

@@ -7,8 +7,8 @@ use Rattle.cert_value.specs.WellFormed.{is_live}
 use Rattle.cert_value.specs.declared.types.Element.{Element}
 use Rattle.cert_value.specs.declared.types.Mark.{Mark}
 use Rattle.cert_value.specs.declared.types.Mark.TheVariants.{Live, Under}
-use Rattle.search_laws.proofs.PlaceLemmas.{at_some}
-use Rattle.search_laws.proofs.ListLemmas.{read_map}
+use Rattle.auto_laws.proofs.PlaceLemmas.{at_some}
+use Rattle.auto_laws.proofs.ListLemmas.{read_map}
 use Rattle.evidence.specs.declared.parts.Closure.{Closure}
 use Rattle.evidence.specs.Evidence.{IsMarked, IsEvidenceOf, marked_live}
 

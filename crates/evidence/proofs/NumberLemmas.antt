@@ -5,7 +5,7 @@ use Rattle.std.proofs.lemmas.Bool.{cases_eq, cases_lt}
 use Rattle.std.proofs.lemmas.List.{get_or_append_left, get_or-append-add, get_or_default}
 use Rattle.std.proofs.lemmas.Option.{get_or_from_slice_get}
 use Rattle.auto_core.specs.Outcome.{At}
-use Rattle.search_laws.proofs.PlaceLemmas.{at_within, read_at}
+use Rattle.auto_laws.proofs.PlaceLemmas.{at_within, read_at}
 
 pub at_of_contains : {X : Type 0} (xs : List X) (x : X) → Contains xs x → (k : ℕ) × At xs k x
 at_of_contains xs x (k, lt, e) = (k, read_at xs k x x lt (sym e))

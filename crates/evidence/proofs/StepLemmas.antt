@@ -6,8 +6,8 @@ use Rattle.std.proofs.lemmas.List.FromFn.{length-range_with_len}
 use Rattle.auto_core.specs.Automaton.{Automaton, IsOutgoing}
 use Rattle.auto_core.specs.Outcome.{Rules, At, Entry, IsLeastSubsumer, next_entry, steps_out}
 use Rattle.cert_value.specs.declared.types.StepLine.{StepLine}
-use Rattle.search_laws.proofs.PlaceLemmas.{at_same, at_within, at_some}
-use Rattle.search_laws.proofs.ListLemmas.{at_map}
+use Rattle.auto_laws.proofs.PlaceLemmas.{at_same, at_within, at_some}
+use Rattle.auto_laws.proofs.ListLemmas.{at_map}
 use Rattle.evidence.specs.Evidence.{AreLeastSubsumers, IsStepOf}
 use Rattle.evidence.proofs.RangeLemmas.{steps_out_are, at_range}
 

@@ -2,9 +2,9 @@
 use Rattle.std.proofs.Common.{◌≡◌, ℕ, zero, suc, ◌<◌, List, [], ◌∷◌, ◌++◌, length, map, slice_index_or, slice_set, Vec, refl, sym, ap, ◌∙◌, subst}
 use Rattle.std.specs.declared.alloc.Global.{Global}
 use Rattle.std.proofs.lemmas.List.{map-set, length-map, get_or-set_other, get_or-set_same}
-use Rattle.search_laws.proofs.ListLemmas.{read_map}
+use Rattle.auto_laws.proofs.ListLemmas.{read_map}
 use Rattle.evidence.specs.Tables.{numbers_at}
-use Rattle.search_laws.proofs.PlaceLemmas.{read_at}
+use Rattle.auto_laws.proofs.PlaceLemmas.{read_at}
 
 pub numbers_is : (ends : List (Vec ℕ Global)) (k : ℕ) (v : Vec ℕ Global) → k < length ends → v ≡ slice_index_or ends k v → numbers_at ends k ≡ v.items
 numbers_is ends k v lt is = read_map (λ (x : Vec ℕ Global). x.items) ends k v [] (read_at ends k v v lt is)

@@ -9,8 +9,8 @@ use Rattle.cert_value.specs.declared.types.Element.{Element}
 use Rattle.cert_value.specs.declared.types.Mark.{Mark}
 use Rattle.cert_value.specs.declared.types.Mark.TheVariants.{Live, Under}
 use Rattle.cert_value.specs.declared.types.StepLine.{StepLine}
-use Rattle.search_laws.proofs.PlaceLemmas.{at_same, at_within, at_some, same_by_places}
-use Rattle.search_laws.proofs.ListLemmas.{at_map}
+use Rattle.auto_laws.proofs.PlaceLemmas.{at_same, at_within, at_some, same_by_places}
+use Rattle.auto_laws.proofs.ListLemmas.{at_map}
 use Rattle.evidence.specs.declared.parts.Closure.{Closure}
 use Rattle.evidence.specs.Evidence.{IsMarked, AreLeastSubsumers, IsStepOf, IsEvidenceOf, marked_live}
 use Rattle.evidence.proofs.MarkLemmas.{elements_size}

@@ -8,7 +8,7 @@ use Rattle.std.specs.Int.Bits.{and_lt}
 use Rattle.auto_core.specs.Rows.{HasBit, HasCell, bit_of, cell_of}
 use Rattle.auto_core.proofs.BitLemmas.{bit_or_tests, bit_past}
 use Rattle.auto_core.proofs.CellLemmas.{cell_at}
-use Rattle.row_steps.proofs.WordLemmas.{bit_and_tests}
+use Rattle.bit_rows.proofs.WordLemmas.{bit_and_tests}
 use Rattle.graph_rows.specs.Covering.{IsTargetAnswered, AreOwnAnswers}
 
 -- rows that meet, as an arc to a related state

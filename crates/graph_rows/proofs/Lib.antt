@@ -5,6 +5,7 @@ pub mod TwinLemmas
 pub mod SameLemmas
 pub mod ArcLemmas
 pub mod CoveringLemmas
+pub mod TurnLemmas
 pub mod PrintLemmas
 pub mod UnionLemmas
 pub mod PartLemmas

@@ -1,13 +1,16 @@
 -- Bits of prints, as they are set one after the other.
-use Rattle.std.proofs.Common.{◌≡◌, ℕ, ◌+◌, ◌*◌, ◌<◌, ◌^◌, ◌/◌, ◌%◌, ◌==◌, inl, inr, Bool, true, false, List, [], ◌∷◌, length, get_or, sym, ap, ◌∙◌, subst, arith, bit_and, w64, refl}
+use Rattle.std.proofs.Common.{◌≡◌, ℕ, ◌+◌, ◌*◌, ◌<◌, ◌^◌, ◌/◌, ◌%◌, ◌==◌, ◌≤◌, ◌↔◌, inl, inr, Bool, true, false, List, [], ◌∷◌, length, get_or, sym, ap, ◌∙◌, subst, arith, bit_and, w64, refl}
 use Rattle.std.specs.Int.{bit_at, bit_not, trailing_zeros}
 use Rattle.std.proofs.lemmas.Nat.Bits.{bit_at-zero}
 use Rattle.std.proofs.lemmas.Bool.{cases_eq, false≢true}
-use Rattle.auto_core.specs.Rows.{HasBit, bit_of}
+use Rattle.auto_core.specs.Rows.{HasBit, bit_of, cell_of}
+use Rattle.auto_core.specs.Reach.{HasArc}
 use Rattle.auto_core.proofs.BitLemmas.{missing_found, bit_past, word_within}
-use Rattle.row_steps.proofs.MeetLemmas.{meet_found}
+use Rattle.bit_rows.proofs.MeetLemmas.{meet_found}
+use Rattle.graph_rows.specs.Block.{IsFormed, joined_plane, width_of}
 use Rattle.graph_rows.specs.declared.prints.PairBits.{PairBits}
 use Rattle.graph_rows.specs.Prints.{MissesAt}
+use Rattle.graph_rows.proofs.ArcLemmas.{row_marks}
 
 pub own_more :
     (P : ℕ → Type 0) (old now : List ℕ) (j : ℕ)
@@ -84,10 +87,28 @@ unmarked i bit = elim (cases_eq (i / 64) 0) [
   | inr n ↦ false≢true (sym (bit_past (0 ∷ []) i (omega arith)) ∙ bit)
 ]
 
--- A bit that is not set now was not set before, where bits that were set stay.
-pub false_before : (was is : Bool) → (was ≡ true → is ≡ true) → is ≡ false → was ≡ false
-false_before false is stays none = refl
-false_before true is stays none = absurd (false≢true (sym none ∙ stays refl))
+pub not_set : (b : Bool) → (b ≡ true → ⊥) → b ≡ false
+not_set true unset = absurd (unset refl)
+not_set false unset = refl
+
+-- The bits of a row of the first plane are its arcs.
+pub row_arcs :
+    (n : ℕ) (block table row : List ℕ) (count width p : ℕ)
+    → IsFormed n block
+    → table ≡ joined_plane count block
+    → count ≡ n
+    → width ≡ (count + 63) / 64
+    → p < n
+    → ((q : ℕ) → q < width * 64 → bit_of row q ≡ cell_of table width p q)
+    → ((q : ℕ) → width * 64 ≤ q → bit_of row q ≡ false)
+    → (q : ℕ)
+    → HasBit row q ↔ HasArc (joined_plane n block) n (width_of n) p q
+row_arcs n block table row count width p formed table_is count_is width_is within bits outside =
+    let w_is : width ≡ width_of n = width_is ∙ ap (λ k. (k + 63) / 64) count_is in
+    row_marks (joined_plane n block) row n (width_of n) p formed.joined within
+    (subst (λ t. (q : ℕ) → q < width_of n * 64 → bit_of row q ≡ cell_of t (width_of n) p q) (table_is ∙ ap (λ k. joined_plane k block) count_is)
+    (subst (λ w. (q : ℕ) → q < w * 64 → bit_of row q ≡ cell_of table w p q) w_is bits))
+    (subst (λ w. (q : ℕ) → w * 64 ≤ q → bit_of row q ≡ false) w_is outside)
 
 -- Words with a bit in common.
 pub words_meet : (x y : ℕ) → bit_and x y < 2 ^ 64 → ¬ (bit_and x y ≡ 0) → (q : ℕ) × HasBit (x ∷ []) q × HasBit (y ∷ []) q

@@ -1,6 +1,6 @@
 -- Prints of graphs: what they say of pairs of states, the same pairs for all graphs of n states, by
 -- bits.
-use Rattle.std.specs.Prelude.{◌≡◌, ℕ, ◌+◌, ◌*◌, ◌/◌, ◌%◌, ◌<◌, ◌≤◌, ◌⊎◌, ◌==◌, Bool, true, false, List, [], ◌∷◌}
+use Rattle.std.specs.Prelude.{◌≡◌, ℕ, ◌+◌, ◌*◌, ◌/◌, ◌%◌, ◌<◌, ◌≤◌, ◌⊎◌, ◌==◌, Bool, true, false, List, [], ◌∷◌, length}
 use Rattle.auto_core.specs.Rows.{HasBit, bit_of}
 use Rattle.auto_core.specs.Graph.{Graph}
 use Rattle.graph_rows.specs.Block.{block_graph}
@@ -10,7 +10,7 @@ use Rattle.graph_rows.specs.declared.prints.TheConstants.{MOST_FOLDED, SOURCE_ST
 
 -- The bit that the pair shares with others.
 abbrev pub folded_bit : ℕ → ℕ → ℕ
-folded_bit p q = (p * 37 + q * 11) % 64
+folded_bit p q = (p * 15 + q) % 64
 
 -- The state at which the j-th multiple of the step falls, where the numbers below 2^32 are spread
 -- over the n states.
@@ -78,3 +78,10 @@ pub record MissesAt (first second : PairBits) : Type 0 where
 -- By the picked pairs, or by the folded ones.
 abbrev pub Misses : Print → Print → Type 0
 Misses first second = MissesAt first.picked second.picked ⊎ MissesAt first.folded second.folded
+
+-- The row has one word, no bit but those of states below n, and a bit for each of these that S
+-- relates to another state.
+pub record AreRelated (n : ℕ) (S : ℕ → ℕ → Type 0) (row : List ℕ) : Type 0 where
+  pub len : length row ≡ 1
+  pub within : (q : ℕ) → HasBit row q → q < n
+  pub others : (q : ℕ) → q < n → bit_of row q ≡ false → (u : ℕ) → S q u → u ≡ q

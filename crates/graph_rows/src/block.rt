@@ -5,7 +5,7 @@ ghost use Rattle.graph_rows.specs.Block.{width_of, joined_plane, past_plane, blo
 ghost use Rattle.auto_core.specs.Graph.{SameGraph};
 
 use auto_core::rows;
-use row_steps::are_equal;
+use bit_rows::are_equal;
 
 /// The number of words of a block for a graph of `n` states.
 pub fn words_of(n: u32) -> usize

@@ -11,7 +11,7 @@ ghost use Rattle.graph_rows.specs.Covering.{AnswersArcs, AnswersWord, AreOwnAnsw
 use crate::block;
 use auto_core::rows;
 use bit_rel::Rel;
-use row_steps::{meets, next_bit, subset};
+use bit_rows::{meets, next_bit, subset};
 
 /// Tells whether an arc leads from the state of the row to some state that the order relates the
 /// target to: one of `past` if

@@ -11,7 +11,7 @@ ghost use Rattle.graph_rows.specs.Added.{HasAdded};
 use crate::block;
 use crate::unions::add_union;
 use auto_core::{Auto, rows};
-use row_steps::{are_equal, next_bit};
+use bit_rows::{are_equal, next_bit};
 
 /// Joins the state of the row to the target, past an accepting state if the way to the target is or
 /// the target itself is one.

@@ -11,10 +11,10 @@ mod moves;
 mod prints;
 mod unions;
 
+pub use bit_rows::{are_equal, subset};
 pub use block::{arc, joined, past, same, words_of};
 pub use covering::{answers, covers, targets_in};
 pub use lanes::or_into;
 pub use letters::{extend_by, letter};
 pub use moves::extend;
 pub use prints::{PairBits, Print, misses, print_of};
-pub use row_steps::{are_equal, subset};

@@ -9,7 +9,7 @@ ghost use Rattle.graph_rows.specs.Added.{HasAdded};
 use crate::block;
 use crate::letters::add_moves;
 use auto_core::{Auto, rows};
-use row_steps::next_bit;
+use bit_rows::next_bit;
 
 /// Extends the arcs out of the state of the row by the moves with the label.
 fn extend_row(

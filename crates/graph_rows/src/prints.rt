@@ -3,16 +3,17 @@
 ghost use Rattle.std.specs.Prelude.{◌≡◌, ◌<◌, ◌≤◌, ◌⊎◌, ◌↔◌, ℕ, [], ◌∷◌, length, true, false, IsTrue};
 ghost use Rattle.auto_core.specs.Game.{Holds};
 ghost use Rattle.auto_core.specs.Rows.{bit_of, HasBit};
-ghost use Rattle.graph_rows.specs.Block.{block_graph, IsFormed};
-ghost use Rattle.graph_rows.specs.Prints.{AreBitsOf, HasAnswered, HasNoAnswer, HasOwn, IsFolded, IsPicked, IsPrint, Misses, MissesAt, folded_bit, is_past, joined_pairs, picked_source, picked_target, spread};
+ghost use Rattle.graph_rows.specs.Block.{block_graph, width_of, IsFormed};
+ghost use Rattle.graph_rows.specs.Prints.{AreBitsOf, AreRelated, HasAnswered, HasNoAnswer, HasOwn, IsFolded, IsPicked, IsPrint, Misses, MissesAt, folded_bit, is_past, joined_pairs, picked_source, picked_target, spread};
 
 use crate::block;
 use crate::covering::answers;
 use auto_core::rows;
 use bit_rel::Rel;
+use bit_rows::{meets, next_bit};
 
 /// Up to so many states, a print tells of each pair of states.
-const MOST_FOLDED: u32 = 24;
+const MOST_FOLDED: u32 = 64;
 
 /// By how much the numbers rise that are spread over the states for the first state of a picked
 /// pair, and for the second.
@@ -38,16 +39,6 @@ pub struct Print {
     pub picked: PairBits,
     /// Of each pair, a bit that it shares with others, where there are few states; else no bit.
     pub folded: PairBits,
-}
-
-/// The bit that the pair shares with others.
-fn folded_bit(p: u32, q: u32) -> u32
-    requires left { p < 64 }
-    requires right { q < 64 }
-    ensures is { result ≡ folded_bit p q }
-    ensures few { result < 64 }
-{
-    (p * 37 + q * 11) % 64
 }
 
 /// The state at which the j-th multiple of the step falls, where the numbers below 2^32 are spread
@@ -132,58 +123,76 @@ fn mark_picked(order: &Rel, g: &[u64], own: &mut [u64], answered: &mut [u64])
     }
 }
 
-/// Sets the bit of the pair, if the graph has it, and if it has an answer to it.
-fn mark_pair(order: &Rel, g: &[u64], p: u32, q: u32, own: &mut [u64], answered: &mut [u64])
-    requires formed { IsFormed order.now.size g.now }
-    requires few { order.now.size ≤ MOST_FOLDED }
-    requires left { p < order.now.size }
-    requires right { q < order.now.size }
-    requires own { length own.old ≡ 1 }
-    requires answered { length answered.old ≡ 1 }
-    ensures own { (j : ℕ) → HasBit own.new j
-        → HasBit own.old j
-        ⊎ ((folded_bit p q ≡ j) × (block_graph order.now.size g.now).joined p q) }
-    ensures answered { bit_of answered.new (folded_bit p q) ≡ false
-        → HasNoAnswer (Holds order.now.pairs) (block_graph order.now.size g.now) false p q }
-    ensures stay { (j : ℕ) → HasBit answered.old j → HasBit answered.new j }
-    ensures own_len { length own.new ≡ 1 }
-    ensures answered_len { length answered.new ≡ 1 }
+/// The bits that the pairs of `p` with these states share with others, where each state has a bit.
+fn turned(p: u32, states: u64) -> u64
+    requires { p < 64 }
+    ensures { (j : ℕ) → HasBit (result ∷ []) j
+        ↔ ((q : ℕ) × HasBit (states ∷ []) q × (folded_bit p q ≡ j)) }
 {
-    let bit = folded_bit(p, q) as usize;
-    if block::arc(order.size(), g, p, q) >= 1 {
-        rows::set_bit(own, bit);
-    }
-    if answers_pair(order, g, p, q, false) {
-        rows::set_bit(answered, bit);
+    states.rotate_left(p * 15)
+}
+
+/// Tells whether the order may relate the state to another one.
+fn may_relate(order: &Rel, q: u32) -> bool
+    requires few { order.now.size ≤ MOST_FOLDED }
+    requires is_state { q < order.now.size }
+    ensures { result ≡ false → (u : ℕ) → Holds order.now.pairs q u → u ≡ q }
+{
+    order.row(q)[0] != 1 << q
+}
+
+/// Sets the bits of the states that the order may relate to others.
+fn mark_related(order: &Rel, states: &mut [u64])
+    requires few { order.now.size ≤ MOST_FOLDED }
+    requires none { states.old ≡ 0 ∷ [] }
+    ensures { AreRelated order.now.size (Holds order.now.pairs) states.new }
+{
+    for q in 0..order.size() {
+        if may_relate(order, q) {
+            rows::set_bit(states, q as usize);
+        }
     }
 }
 
-/// Sets the bits of the pairs of `p`, those that the graph has, and those that it has an answer to.
-fn mark_row(order: &Rel, g: &[u64], p: u32, own: &mut [u64], answered: &mut [u64])
-    requires formed { IsFormed order.now.size g.now }
+/// Sets the bits of those of the related states to which the row has an answer.
+fn mark_answered(order: &Rel, related: &[u64], row: &[u64], states: &mut [u64])
     requires few { order.now.size ≤ MOST_FOLDED }
-    requires left { p < order.now.size }
-    requires own { length own.old ≡ 1 }
-    requires answered { length answered.old ≡ 1 }
-    ensures own { (j : ℕ) → HasBit own.new j
-        → HasBit own.old j
-        ⊎ ((q : ℕ) × (q < order.now.size) × (folded_bit p q ≡ j)
-        × (block_graph order.now.size g.now).joined p q) }
-    ensures answered { (q : ℕ) → q < order.now.size → bit_of answered.new (folded_bit p q) ≡ false
-        → HasNoAnswer (Holds order.now.pairs) (block_graph order.now.size g.now) false p q }
-    ensures stay { (j : ℕ) → HasBit answered.old j → HasBit answered.new j }
-    ensures own_len { length own.new ≡ 1 }
-    ensures answered_len { length answered.new ≡ 1 }
+    requires related { AreRelated order.now.size (Holds order.now.pairs) related.now }
+    requires row { length row.now ≡ width_of order.now.size }
+    requires states { length states.old ≡ 1 }
+    ensures answered { (q : ℕ) → HasBit related.now q → bit_of states.new q ≡ false → (u : ℕ)
+        → HasBit row.now u → Holds order.now.pairs q u → ⊥ }
+    ensures stay { (q : ℕ) → HasBit states.old q → HasBit states.new q }
+    ensures len { length states.new ≡ 1 }
 {
-    for q in 0..order.size() {
-        mark_pair(order, g, p, q, own, answered);
+    let mut at = 0;
+    while let Some(q) = next_bit(related, at) {
+        if meets(row, order.row(q as u32)) {
+            rows::set_bit(states, q);
+        }
+        at = q + 1;
     }
+}
+
+/// The states to which the row has an answer, a bit for each, and those of the row.
+fn answered_states(order: &Rel, related: &[u64], row: &[u64]) -> u64
+    requires few { order.now.size ≤ MOST_FOLDED }
+    requires related { AreRelated order.now.size (Holds order.now.pairs) related.now }
+    requires row { length row.now ≡ width_of order.now.size }
+    requires word { length row.now ≡ 1 }
+    ensures { (q : ℕ) → q < order.now.size → bit_of (result ∷ []) q ≡ false → (u : ℕ)
+        → HasBit row.now u → Holds order.now.pairs q u → ⊥ }
+{
+    let mut states = [row[0]];
+    mark_answered(order, related, row, &mut states);
+    states[0]
 }
 
 /// Sets the bits of all pairs that the graph has, and of those that it has an answer to.
-fn mark_all(order: &Rel, g: &[u64], own: &mut [u64], answered: &mut [u64])
+fn mark_all(order: &Rel, g: &[u64], related: &[u64], own: &mut [u64], answered: &mut [u64])
     requires formed { IsFormed order.now.size g.now }
     requires few { order.now.size ≤ MOST_FOLDED }
+    requires related { AreRelated order.now.size (Holds order.now.pairs) related.now }
     requires own { own.old ≡ 0 ∷ [] }
     requires answered { answered.old ≡ 0 ∷ [] }
     ensures own { (x : ℕ) → own.new ≡ x ∷ []
@@ -192,8 +201,12 @@ fn mark_all(order: &Rel, g: &[u64], own: &mut [u64], answered: &mut [u64])
         → HasAnswered (IsFolded order.now.size) (Holds order.now.pairs)
         (block_graph order.now.size g.now) x }
 {
-    for p in 0..order.size() {
-        mark_row(order, g, p, own, answered);
+    let n = order.size();
+    let joined = block::joined(n, g);
+    for p in 0..n {
+        let row = rows::row_at(joined, rows::words_for(n), p as usize);
+        rows::add_bits(own, &[turned(p, row[0])]);
+        rows::add_bits(answered, &[turned(p, answered_states(order, related, row))]);
     }
 }
 
@@ -227,7 +240,9 @@ fn folded_bits(order: &Rel, g: &[u64]) -> PairBits
     let mut own = [0];
     let mut answered = [0];
     if order.size() <= MOST_FOLDED {
-        mark_all(order, g, &mut own, &mut answered);
+        let mut related = [0];
+        mark_related(order, &mut related);
+        mark_all(order, g, &related, &mut own, &mut answered);
     }
     PairBits {
         own: own[0],

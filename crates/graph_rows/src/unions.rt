@@ -7,7 +7,7 @@ ghost use Rattle.auto_core.specs.Reach.{IsTable, HasArc, MarksBelow};
 ghost use Rattle.graph_rows.specs.Added.{HasAdded, IsUnionOfRows, FollowsFrom};
 
 use auto_core::rows;
-use row_steps::next_bit;
+use bit_rows::next_bit;
 
 /// A row of more words is joined by lanes, each by itself.
 const MOST_SHORT: usize = 8;

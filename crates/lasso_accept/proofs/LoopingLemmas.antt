@@ -10,7 +10,7 @@ use Rattle.auto_core.specs.Reach.{HasArc}
 use Rattle.auto_core.proofs.PathLemmas.{run_join, run_split}
 use Rattle.auto_core.proofs.ReachLemmas.{close_trans}
 use Rattle.lasso_accept.specs.Plane.{ArePlanes}
-use Rattle.loop_rows.specs.Loops.{LeadsToLoop}
+use Rattle.bit_rows.specs.Loops.{LeadsToLoop}
 use Rattle.lasso_accept.specs.Looping.{AcceptsLoopFrom, AcceptsLassoFrom, AcceptsFromInitial, AreRests}
 use Rattle.lasso_accept.specs.Guide.{IsGuide}
 use Rattle.lasso_accept.proofs.GuideLemmas.{guide_rests}

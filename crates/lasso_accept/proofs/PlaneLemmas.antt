@@ -7,8 +7,8 @@ use Rattle.auto_core.specs.Rows.{HasCell, cell_of, bit_of}
 use Rattle.auto_core.proofs.BitLemmas.{bit_past}
 use Rattle.auto_core.proofs.MoveLemmas.{move_in_range}
 use Rattle.auto_core.proofs.PathLemmas.{run_split}
-use Rattle.path_laws.proofs.PumpingLemmas.{run_in_range}
-use Rattle.row_steps.proofs.WordLemmas.{bit_of_zero_word}
+use Rattle.auto_laws.proofs.PumpingLemmas.{run_in_range}
+use Rattle.bit_rows.proofs.WordLemmas.{bit_of_zero_word}
 use Rattle.lasso_accept.specs.Plane.{ArePlanes, chosen}
 
 -- The first rows of the new table have what their moves with the letter gather; the others have nothing.

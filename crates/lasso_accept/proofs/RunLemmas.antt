@@ -7,7 +7,7 @@ use Rattle.auto_core.specs.Game.{Close}
 use Rattle.auto_core.specs.Rows.{HasBit, HasCell, bit_of, cell_of}
 use Rattle.auto_core.specs.Reach.{HasArc}
 use Rattle.auto_core.proofs.PathLemmas.{run_split, run_of_path, run_from_path, path_of_run, path_join, end_of-append, some_accepting-append}
-use Rattle.path_laws.proofs.PumpingLemmas.{chain_short}
+use Rattle.auto_laws.proofs.PumpingLemmas.{chain_short}
 use Rattle.lasso_accept.specs.Plane.{ArePlanes}
 use Rattle.lasso_accept.specs.Guide.{LeadsToTarget, IsSpelled}
 use Rattle.lasso_accept.specs.Countdown.{IsCountdown}

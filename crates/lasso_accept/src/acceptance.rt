@@ -8,7 +8,7 @@ ghost use Rattle.lasso_accept.specs.Looping.{AcceptsLoopFrom};
 
 use crate::looping::accepts_loop_from;
 use auto_core::{Auto, Lasso, Memory};
-use row_steps::meets;
+use bit_rows::meets;
 use set_rows::reached;
 use std::alloc::Global;
 

@@ -189,7 +189,7 @@ pub fn step_back(
     row.copy_from_slice(rows::row_at(table, width, at));
     rows::clear_row(out);
     write_row(automaton, label, width, row, row, 0, out);
-    row_steps::write_row(table, width, at - 1, out);
+    bit_rows::write_row(table, width, at - 1, out);
 }
 
 /// Writes all rows from the last one, which stands; the others are clear. `marked` and `plain` are

@@ -9,7 +9,7 @@ ghost use Rattle.lasso_accept.specs.Tails.{AreTails};
 use crate::guide;
 use crate::tails::{Tail, planes_by};
 use auto_core::{Auto, Lasso, Memory, rows};
-use loop_rows::{Room, mark_loops};
+use bit_rows::{Room, mark_loops};
 use std::alloc::Global;
 
 /// The states from which the loop, repeated for ever, is accepted. From none an empty loop is.

@@ -10,8 +10,8 @@ use Rattle.auto_core.specs.Quotient.{class_of}
 use Rattle.auto_core.proofs.PathLemmas.{run_join, accepting_from_test, test_from_accepting}
 use Rattle.auto_core.proofs.MemberLemmas.{same_bool}
 use Rattle.auto_core.proofs.MoveLemmas.{move_in_range}
-use Rattle.path_laws.specs.Pumping.{RunsPast}
-use Rattle.path_laws.proofs.PumpingLemmas.{repeated-add, repeated-times, pumping, reblock}
+use Rattle.auto_laws.specs.Pumping.{RunsPast}
+use Rattle.auto_laws.proofs.PumpingLemmas.{repeated-add, repeated-times, pumping, reblock}
 use Rattle.map_laws.specs.Maps.{classes_in}
 use Rattle.lasso_reading.specs.Words.{SpellSame}
 use Rattle.lasso_reading.specs.Reading.{next_position, IsReadingProduct, ProductReadsJust}

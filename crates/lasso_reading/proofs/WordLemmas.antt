@@ -8,7 +8,7 @@ use Rattle.auto_core.specs.Automaton.{Automaton, is_accepting}
 use Rattle.auto_core.specs.Run.{Run, repeated}
 use Rattle.auto_core.specs.Accept.{AcceptsLasso}
 use Rattle.auto_core.proofs.PathLemmas.{run_join}
-use Rattle.path_laws.proofs.PumpingLemmas.{repeated-add, repeated-times, length-repeated, reblock}
+use Rattle.auto_laws.proofs.PumpingLemmas.{repeated-add, repeated-times, length-repeated, reblock}
 use Rattle.lasso_reading.specs.Words.{first_letters, SpellSame, SpelledAlikeAcceptedAlike}
 
 -- ---- first letters

@@ -3,16 +3,13 @@
 ghost use Rattle.std.specs.Prelude.{◌≡◌, ◌^◌, ◌<◌, ◌≤◌, ◌++◌, length, None, IfOk, IfSome};
 ghost use Rattle.auto_core.specs.Automaton.{IsAutomaton};
 ghost use Rattle.auto_core.specs.Accept.{AcceptsLasso};
-ghost use Rattle.auto_core.specs.Useful.{IsTrimmed};
-ghost use Rattle.auto_core.specs.declared.parts.Mode.TheVariants.{Buchi};
 ghost use Rattle.lasso_reading.specs.Finding.{HasNoMoves, AcceptsNone, LassoIsRight, RejectedIsRight, LimitIsRight};
 
 use crate::product::product_with;
 use auto_core::{Auto, Lasso, Memory, Mode, of_parts};
 use product_search::{Product, decide};
 use std::alloc::Global;
-use useful_search::useful;
-use useful_states::keep;
+use useful_states::trim;
 
 /// What an automaton says of the lassos whose classes spell a lasso of classes.
 #[derive(Debug, Drop)]
@@ -33,14 +30,6 @@ fn without_moves(alloc: Global, labels: u32) -> Result<Auto, Memory>
     of_parts(alloc, 1, labels, 0, &[], &[])
 }
 
-/// The automaton of the useful states and the initial one.
-fn trimmed(alloc: Global, automaton: &Auto) -> Result<Auto, Memory>
-    ensures { IfOk result (IsTrimmed automaton.now Buchi) }
-{
-    let kept = useful(alloc, automaton, Mode::Buchi)?;
-    keep(alloc, automaton, &kept)
-}
-
 /// A lasso that the automaton accepts, if there is one. 2^32 - 2 states and more may be refused as
 /// memory.
 pub fn accepted_lasso(alloc: Global, automaton: &Auto) -> Result<Option<Lasso>, Memory>
@@ -48,7 +37,7 @@ pub fn accepted_lasso(alloc: Global, automaton: &Auto) -> Result<Option<Lasso>, 
         result (λ r. IfSome r (λ lasso. AcceptsLasso automaton.now lasso.prefix lasso.turn)) }
     ensures none { result ≡ Ok None → AcceptsNone automaton.now }
 {
-    let first = trimmed(alloc, automaton)?;
+    let first = trim(alloc, automaton, Mode::Buchi)?;
     let second = without_moves(alloc, automaton.labels())?;
     match decide(alloc, &first, &second, 0xffff_ffff)? {
         Product::Included(_) => Ok(None),

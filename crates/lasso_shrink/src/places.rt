@@ -8,7 +8,7 @@ ghost use Rattle.lasso_shrink.specs.Prefixes.{IsFront, AreKept, IsFirstPlace, Pr
 
 use crate::rests::Rests;
 use auto_core::{Auto, Lasso, Memory, rows};
-use row_steps::meets;
+use bit_rows::meets;
 use set_rows::{write_after, write_one};
 use std::alloc::Global;
 

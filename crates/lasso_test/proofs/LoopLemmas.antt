@@ -3,10 +3,10 @@ use Rattle.std.proofs.Common.{ℕ, zero, suc, ◌<◌, ◌↔◌, List, sym, sub
 use Rattle.auto_core.specs.Game.{Chain}
 use Rattle.auto_core.specs.Graph.{Graph, IsGraph, LassoIn, graph_of, graph_of_values}
 use Rattle.auto_core.specs.Rows.{HasBit}
-use Rattle.graph_laws.proofs.GraphLemmas.{word_graph_is, value_graph_is}
+use Rattle.auto_laws.proofs.GraphLemmas.{word_graph_is, value_graph_is}
 use Rattle.graph_rows.specs.Block.{block_graph}
-use Rattle.graph_laws.proofs.LassoLemmas.{loop_of_lasso, lasso_of_loop}
-use Rattle.loop_rows.specs.Loops.{LeadsToLoop}
+use Rattle.auto_laws.proofs.LassoLemmas.{loop_of_lasso, lasso_of_loop}
+use Rattle.bit_rows.specs.Loops.{LeadsToLoop}
 use Rattle.lasso_test.specs.Loops.{HasLoop}
 use Rattle.lasso_test.specs.Laws.{EntersLoop, LassosEnterLoops, BlocksEnterLoops, WordsEnterLoops}
 

@@ -6,7 +6,7 @@ ghost use Rattle.auto_core.specs.Rows.{HasBit};
 ghost use Rattle.graph_rows.specs.Block.{width_of, block_graph, IsFormed};
 
 use auto_core::rows;
-use row_steps::meets;
+use bit_rows::meets;
 
 /// Tells whether an arc of `g` leads from the initial state to one of the marked ones.
 pub fn enters(n: u32, g: &[u64], initial: u32, looping: &[u64]) -> bool

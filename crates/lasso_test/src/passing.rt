@@ -7,7 +7,7 @@ ghost use Rattle.graph_rows.specs.Block.{width_of, block_graph, IsFormed};
 ghost use Rattle.lasso_test.specs.Loops.{HasLoop};
 
 use auto_core::{Memory, reach, rows};
-use loop_rows::{Room, mark_loops};
+use bit_rows::{Room, mark_loops};
 use std::alloc::Global;
 use std::marker::Model;
 

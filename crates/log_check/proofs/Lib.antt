@@ -7,3 +7,6 @@ pub mod RankLemmas
 pub mod AheadLemmas
 pub mod LawLemmas
 pub mod LawOneLemmas
+pub mod RowLemmas
+pub mod SameRowsLemmas
+pub mod RowBoundLemmas

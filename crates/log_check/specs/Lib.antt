@@ -9,3 +9,4 @@ pub mod Ends
 pub mod Laws
 pub mod Closures
 pub mod RankedLists
+pub mod Rows

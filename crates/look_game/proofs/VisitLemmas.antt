@@ -4,7 +4,7 @@ use Rattle.std.proofs.lemmas.Bool.{cases_eq, cases_lt, false≢true}
 use Rattle.auto_core.specs.Rows.{bit_of, HasBit}
 use Rattle.auto_core.specs.Game.{Round, Holds}
 use Rattle.bit_rel.specs.Relation.{Relation, IsRelation, Removes}
-use Rattle.row_steps.specs.Walks.{IsNextBit}
+use Rattle.bit_rows.specs.Walks.{IsNextBit}
 use Rattle.look_round.specs.declared.answering.Answering.{Answering}
 use Rattle.look_round.specs.Answering.{IsAnsweredAtOnce, IsRowOfAnswers}
 use Rattle.look_round.proofs.AnsweringLemmas.{bit_cases, answered_round}

@@ -17,8 +17,8 @@ use crate::sweeping::{rows_to_sweep, sweep_often};
 use crate::visiting::{Visits, visit_row};
 use auto_core::{Auto, Memory, rows};
 use bit_rel::Rel;
+use bit_rows::mark_below;
 use look_round::{Scratch, Side, bound};
-use row_steps::mark_below;
 use std::alloc::Global;
 
 /// Takes away pairs of the marked rows that do not have their round, each pair being tried once,

@@ -12,8 +12,8 @@ ghost use Rattle.look_game.specs.Visiting.{IsRoomFor, TakesRow};
 
 use auto_core::{Auto, Memory, rows};
 use bit_rel::Rel;
+use bit_rows::next_bit;
 use look_round::{Answering, Scratch, Side, round_holds_by};
-use row_steps::next_bit;
 use std::alloc::Global;
 
 /// Room for visits, and what is answered at once.

@@ -1,5 +1,5 @@
 -- Rows of the states that answer a move at once.
-use Rattle.std.proofs.Common.{◌≡◌, ℕ, ◌+◌, ◌*◌, ◌/◌, ◌%◌, ◌<◌, ◌≤◌, ◌⊎◌, ◌↔◌, ◌==◌, inl, inr, Bool, true, false, List, [], ◌∷◌, length, get_or, Contains, refl, sym, ap, ◌∙◌, subst, arith, min, bit_and}
+use Rattle.std.proofs.Common.{◌≡◌, ℕ, ◌+◌, ◌*◌, ◌/◌, ◌%◌, ◌<◌, ◌≤◌, ◌⊎◌, ◌↔◌, ◌==◌, inl, inr, Bool, ◌||◌, true, false, List, [], ◌∷◌, length, get_or, Contains, refl, sym, ap, ◌∙◌, subst, arith, min, bit_and}
 use Rattle.std.specs.Int.{bit_at}
 use Rattle.std.specs.Int.Bits.{bit_xor}
 use Rattle.std.proofs.Math.Nat.{mul_comm, mul_assoc}
@@ -11,9 +11,11 @@ use Rattle.auto_core.proofs.BitLemmas.{bit_past}
 use Rattle.auto_core.specs.Rows.{bit_of, cell_of, HasBit, HasCell}
 use Rattle.auto_core.specs.Game.{Round}
 use Rattle.look_round.specs.declared.moves.Move.{Move}
-use Rattle.row_steps.specs.Walks.{IsNextBit}
+use Rattle.bit_rows.specs.Walks.{IsNextBit}
 use Rattle.look_round.specs.Sides.{move}
 use Rattle.look_round.specs.declared.answering.Answering.{Answering}
+use Rattle.look_round.specs.declared.arrivals.Arrivals.{Arrivals}
+use Rattle.look_round.specs.Arrivals.{IsRowOfArrivals}
 use Rattle.look_round.specs.Answering.{IsAnsweredAtOnce, IsRowOfAnswers}
 
 -- The column of the letter a and the state q, where a letter has w words.
@@ -133,6 +135,14 @@ all_arrived moves goes old now l w t n lists all h a q a_in q_in = (
         let (j, j_in, is) = (lists a q).1 go in
         inr (j, omega arith, get_or_default moves j (move 0 0) (move a q) j_in ∙ is)
   ]),
+)
+
+-- what a bit says that is added to another
+pub row_added : (old new bit : Bool) (G : Type 0) → new ≡ (old || bit) → (bit ≡ true) ↔ G → (new ≡ true) ↔ ((old ≡ true) ⊎ G)
+row_added true new bit G e both = (λ h. inl refl, λ either. e)
+row_added false new bit G e both = (
+  λ h. inr (both.0 (sym e ∙ h)),
+  λ either. elim either [ inl h ↦ absurd (false≢true h) | inr go ↦ e ∙ both.1 go ],
 )
 
 -- For each letter row t has lost of the old cells those of the first n moves of the list of which P does not hold; the other rows are the same.
@@ -489,4 +499,32 @@ answers_kept M ok W old new p labels width same h = λ a q a_in q_in.
     let is = h a q b_in s_in in
     let cell = same (a * old.width * 64 + q) (column_fits old.labels old.width a q b_in s_in) in
     (λ there. is.0 (sym cell ∙ there), λ answer. cell ∙ is.1 answer) in
+    subst (λ l. P l new.width) (sym labels) (subst (λ w. P old.labels w) (sym width) here) a_in q_in
+
+-- the row of a state stays right where its words stay
+pub arrivals_kept :
+    (M : ℕ → ℕ → ℕ → Type 0) (old new : Arrivals) (r : ℕ)
+    → new.labels ≡ old.labels
+    → new.width ≡ old.width
+    → ((c : ℕ) → c < old.labels * old.width * 64 → cell_of new.table.items (old.labels * old.width) r c ≡ cell_of old.table.items (old.labels * old.width) r c)
+    → IsRowOfArrivals M old r
+    → IsRowOfArrivals M new r
+arrivals_kept M old new r labels width same h = λ a q a_in q_in.
+    let P : ℕ → ℕ → Type 0 = λ l w. a < l → q < w * 64 → HasCell new.table.items (l * w) r (a * w * 64 + q) ↔ M q a r in
+    let here : P old.labels old.width = λ b_in s_in.
+    let is = h a q b_in s_in in
+    let cell = same (a * old.width * 64 + q) (column_fits old.labels old.width a q b_in s_in) in
+    (λ there. is.0 (sym cell ∙ there), λ goes. cell ∙ is.1 goes) in
+    subst (λ l. P l new.width) (sym labels) (subst (λ w. P old.labels w) (sym width) here) a_in q_in
+
+-- a row that was written with the old sizes is right with the new ones, which are the same
+pub arrivals_written :
+    (M : ℕ → ℕ → ℕ → Type 0) (old new : Arrivals) (r : ℕ)
+    → new.labels ≡ old.labels
+    → new.width ≡ old.width
+    → ((a q : ℕ) → a < old.labels → q < old.width * 64 → HasCell new.table.items (old.labels * old.width) r (a * old.width * 64 + q) ↔ M q a r)
+    → IsRowOfArrivals M new r
+arrivals_written M old new r labels width h = λ a q a_in q_in.
+    let P : ℕ → ℕ → Type 0 = λ l w. a < l → q < w * 64 → HasCell new.table.items (l * w) r (a * w * 64 + q) ↔ M q a r in
+    let here : P old.labels old.width = h a q in
     subst (λ l. P l new.width) (sym labels) (subst (λ w. P old.labels w) (sym width) here) a_in q_in

@@ -2,7 +2,7 @@
 use Rattle.std.proofs.Common.{ℕ, ◌*◌, ◌<◌, ◌≤◌, List, arith}
 use Rattle.auto_core.specs.Game.{Holds}
 use Rattle.bit_rel.specs.Relation.{Relation}
-use Rattle.path_laws.proofs.GameLemmas.{TellsMoves}
+use Rattle.auto_laws.proofs.GameLemmas.{TellsMoves}
 use Rattle.look_round.specs.Words.{AreColumns, AreMatches, HoldsTable, IsBound}
 use Rattle.look_round.proofs.ColumnLemmas.{IsNarrowedBy}
 use Rattle.look_round.proofs.HavingLemmas.{word_kept}

@@ -3,9 +3,9 @@ use Rattle.std.proofs.Common.{◌≡◌, ℕ, ◌≤◌, ◌↔◌, ◌⊎◌, i
 use Rattle.auto_core.specs.Run.{PathBy}
 use Rattle.auto_core.specs.Game.{AllMatched, IsDead, Stable}
 use Rattle.auto_core.proofs.PathLemmas.{Contains-here, none_in_nil}
-use Rattle.path_laws.specs.Games.{IsFollowed}
-use Rattle.path_laws.proofs.GameLemmas.{TellsMoves, follow}
-use Rattle.path_laws.proofs.MatchLemmas.{matched_trans}
+use Rattle.auto_laws.specs.Games.{IsFollowed}
+use Rattle.auto_laws.proofs.GameLemmas.{TellsMoves, follow}
+use Rattle.auto_laws.proofs.MatchLemmas.{matched_trans}
 use Rattle.look_round.specs.declared.moves.Move.{Move}
 use Rattle.look_round.specs.Sides.{move}
 use Rattle.look_round.specs.Words.{GoesByWord}

@@ -5,7 +5,7 @@ use Rattle.std.proofs.lemmas.List.{get_or_default}
 use Rattle.auto_core.specs.Automaton.{trans}
 use Rattle.auto_core.specs.declared.parts.Trans.{Trans}
 use Rattle.auto_core.specs.Rows.{bit_of, cell_of, HasBit, HasCell}
-use Rattle.row_steps.specs.Walks.{IsNextBit}
+use Rattle.bit_rows.specs.Walks.{IsNextBit}
 use Rattle.look_round.specs.Words.{AreColumns, AreWordPlaces, AreColumnPlaces, LeadsToPlace, AddsColumns}
 
 -- The rows that the bits of `row` below `next` name are marked at one place.

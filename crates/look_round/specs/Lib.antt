@@ -6,6 +6,7 @@ pub mod RoomStored
 pub mod Words
 pub mod Known
 pub mod Answering
+pub mod Arrivals
 pub mod Kinds
 pub mod ReplyLists
 pub mod Listed

@@ -1,6 +1,6 @@
 -- Duplicator's replies, and a round from a set of states in which Duplicator may be.
 use Rattle.std.specs.Prelude.{◌≡◌, ℕ, ◌+◌, ◌*◌, ◌<◌, ◌≤◌, List, ◌∷◌, length}
-use Rattle.auto_core.specs.Rows.{cell_of, HasCell}
+use Rattle.auto_core.specs.Rows.{cell_of, HasBit, HasCell}
 use Rattle.auto_core.specs.Run.{PathBy}
 use Rattle.auto_core.specs.Game.{MayShow, Answers}
 
@@ -11,6 +11,10 @@ IsReply M ok a p q r = M q a r × ok p r
 -- In the table whose rows have `width` words, row i has the state q, which is below n.
 abbrev pub HasReply : List ℕ → ℕ → ℕ → ℕ → ℕ → Type 0
 HasReply table n width i q = (q < n) × HasCell table width i q
+
+-- The row has the state q, which is below n.
+abbrev pub IsInRow : List ℕ → ℕ → ℕ → Type 0
+IsInRow row n q = (q < n) × HasBit row q
 
 -- Duplicator answers the path from one of the states of D.
 abbrev pub AnswersFrom : (ℕ → ℕ → ℕ → Type 0) → (ℕ → ℕ → Type 0) → (ℕ → ℕ → Type 0) → (ℕ → Type 0)

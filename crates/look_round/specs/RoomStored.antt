@@ -8,12 +8,10 @@ use Rattle.look_round.specs.declared.scratch.TheConstants.{MOST_LISTED}
 abbrev pub room_of : Inside → Room
 room_of s = record { states = s.states; look = s.look }
 
--- Six moves fit into the path, and there is a row for each place of the path and for its start, and
--- as many for what a round remembers. Some states can be listed.
+-- Six moves fit into the path, and there is a row for each place of the path and for its start.
+-- What a round has found out is in rows of the same width. Some states can be listed.
 pub record IsRoomStored (s : Inside) : Type 0 where
   pub path : s.path.capacity ≡ 6
   pub sets : length s.sets.items ≡ (s.look + 1) * ((s.states + 63) / 64)
-  pub letters : length s.letters.items ≡ s.look + 1
-  pub held : length s.held.items ≡ (s.look + 1) * ((s.states + 63) / 64)
-  pub known : length s.known.items ≡ (s.look + 1) * ((s.states + 63) / 64)
+  pub known : s.known.width ≡ (s.states + 63) / 64
   pub listed : length s.listed.items ≡ MOST_LISTED

@@ -4,16 +4,18 @@
 ghost use Rattle.std.specs.Prelude.{◌≡◌, ◌+◌, ◌*◌, ◌/◌, ◌^◌, ◌<◌, ◌≤◌, ◌↔◌, ◌⊎◌, ℕ, length, vec_len, Contains, IsTrue, IfOk};
 ghost use Rattle.auto_core.specs.Rows.{cell_of, HasCell, HasBit};
 ghost use Rattle.auto_core.specs.Game.{Holds};
+ghost use Rattle.look_round.specs.Arrivals.{AreArrivals};
 ghost use Rattle.look_round.specs.ReplyLists.{AreReplyLists};
 ghost use Rattle.look_round.specs.Answering.{IsAnsweredAtOnce, IsRowOfAnswers, AreRowsOfAnswers};
 
 use crate::answering::Answering;
+use crate::arrivals::Arrivals;
 use crate::moves::Move;
 use crate::reply_lists::ReplyLists;
 use crate::sides::Side;
 use auto_core::{Auto, Memory, rows};
 use bit_rel::Rel;
-use row_steps::{and_row, clear_table_row, next_bit};
+use bit_rows::{and_row, clear_table_row, next_bit};
 use std::alloc::Global;
 
 /// At most so many words are kept.
@@ -31,7 +33,7 @@ fn place_in_row(labels: u32, width: usize, label: u32, state: u32) -> usize
 }
 
 /// Marks in row `t` of the table, for each letter, the states from which a move by it leads to `r`.
-fn mark_arrivals<S: Side>(
+pub(crate) fn mark_arrivals<S: Side>(
     side: &S,
     automaton: &Auto,
     t: u32,
@@ -65,28 +67,28 @@ fn write_answers<S: Side>(
     side: &S,
     automaton: &Auto,
     rel: &Rel,
+    arrivals: &Arrivals,
     t: u32,
     table: &mut [u64],
-    labels: u32,
-    width: usize,
 )
     requires state { t < automaton.now.states }
     requires equal { rel.now.size ≡ automaton.now.states }
     requires states { automaton.now.states < 2 ^ 32 }
-    requires width { width ≡ (automaton.now.states + 63) / 64 }
-    requires few { labels * width < 2 ^ 32 }
-    requires row { t * (labels * width) + labels * width ≤ length table.old }
-    ensures here { (a q : ℕ) → a < labels → q < width * 64
-        → HasCell table.new (labels * width) t (a * width * 64 + q)
+    requires arrivals { AreArrivals (S.goes side.now automaton.now) arrivals.now }
+    requires width { arrivals.now.width ≡ (automaton.now.states + 63) / 64 }
+    requires row { t * (arrivals.now.labels * arrivals.now.width)
+        + arrivals.now.labels * arrivals.now.width ≤ length table.old }
+    ensures here { (a q : ℕ) → a < arrivals.now.labels → q < arrivals.now.width * 64
+        → HasCell table.new (arrivals.now.labels * arrivals.now.width) t (a * arrivals.now.width * 64 + q)
         ↔ IsAnsweredAtOnce (S.goes side.now automaton.now) (S.matches side.now automaton.now) (Holds rel.now.pairs) a t q }
-    ensures others { (s c : ℕ) → c < labels * width * 64 → ¬ (s ≡ t)
-        → cell_of table.new (labels * width) s c ≡ cell_of table.old (labels * width) s c }
+    ensures others { (s c : ℕ) → c < arrivals.now.labels * arrivals.now.width * 64 → ¬ (s ≡ t)
+        → cell_of table.new (arrivals.now.labels * arrivals.now.width) s c ≡ cell_of table.old (arrivals.now.labels * arrivals.now.width) s c }
 {
-    clear_table_row(table, labels as usize * width, t as usize);
+    clear_table_row(table, arrivals.labels as usize * arrivals.width, t as usize);
     let mut at = 0;
     while let Some(r) = next_bit(rel.row(t), at) {
         if side.matched(automaton, t, r as u32) {
-            mark_arrivals(side, automaton, t, r as u32, table, labels, width);
+            arrivals.add(side, automaton, t, r as u32, table);
         }
         at = r + 1;
     }
@@ -259,17 +261,28 @@ impl Answering {
         let width = rows::words_for(count);
         let lists = ReplyLists::new(alloc, side, automaton)?;
         let mut made = Answering::blank(alloc, count, automaton.labels(), width, lists)?;
+        let arrivals = Arrivals::new(alloc, side, automaton, &made)?;
         for t in 0..count {
-            made.refresh(side, automaton, rel, t);
+            made.refresh(side, automaton, rel, &arrivals, t);
         }
         Ok(made)
     }
 
     /// Makes the row of the state right, if it has one.
-    fn refresh<S: Side>(&mut self, side: &S, automaton: &Auto, rel: &Rel, t: u32)
+    fn refresh<S: Side>(
+        &mut self,
+        side: &S,
+        automaton: &Auto,
+        rel: &Rel,
+        arrivals: &Arrivals,
+        t: u32,
+    )
         requires state { t < automaton.now.states }
         requires states { automaton.now.states < 2 ^ 32 }
         requires equal { rel.now.size ≡ automaton.now.states }
+        requires arrivals { AreArrivals (S.goes side.now automaton.now) arrivals.now }
+        requires like_labels { arrivals.now.labels ≡ self.old.labels }
+        requires like_width { arrivals.now.width ≡ self.old.width }
         requires width { self.old.width ≡ (automaton.now.states + 63) / 64 }
         ensures width { self.new.width ≡ self.old.width }
         ensures kept { self.new.kept ≡ self.old.kept }
@@ -283,15 +296,7 @@ impl Answering {
         if t >= self.kept {
             return;
         }
-        write_answers(
-            side,
-            automaton,
-            rel,
-            t,
-            &mut self.table,
-            self.labels,
-            self.width,
-        );
+        write_answers(side, automaton, rel, arrivals, t, &mut self.table);
     }
 
     /// Tells whether there is a row for the move.

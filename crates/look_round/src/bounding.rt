@@ -13,7 +13,7 @@ use crate::sides::Side;
 use crate::words::write_columns;
 use auto_core::{Auto, Memory, rows};
 use bit_rel::Rel;
-use row_steps::{and_row, has_no_other, next_bit};
+use bit_rows::{and_row, has_no_other, next_bit};
 use std::alloc::Global;
 
 /// At most so many letters are tried.

@@ -6,9 +6,8 @@ ghost use Rattle.auto_core.specs.Rows.{bit_of, cell_of, HasBit, HasCell};
 ghost use Rattle.look_round.specs.Words.{HasColumns, IsRowNarrowed};
 
 use auto_core::{Memory, rows};
-use row_steps::{next_bit, subset};
+use bit_rows::{next_bit, subset, transpose};
 use std::alloc::Global;
-use transposed::transpose;
 
 /// Takes q from row p, unless `other` has each bit of `own`.
 fn keep_if_within(table: &mut [u64], width: usize, p: usize, q: usize, own: &[u64], other: &[u64])

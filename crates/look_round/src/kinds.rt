@@ -9,7 +9,7 @@ ghost use Rattle.look_round.specs.Words.{AreMatches};
 use crate::reply_lists::MOST_KINDS;
 use crate::sides::Side;
 use auto_core::{Auto, Memory, rows};
-use row_steps::write_row;
+use bit_rows::write_row;
 use std::alloc::Global;
 
 /// Writes into the row the states that match `p`.

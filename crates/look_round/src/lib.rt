@@ -3,10 +3,13 @@
 
 mod answer_rows;
 mod answering;
+mod arrival_rows;
+mod arrivals;
 mod bounding;
 mod comparing;
 mod kinds;
 mod known;
+mod known_rows;
 mod list_rounds;
 mod listing;
 mod moves;

@@ -1,15 +1,14 @@
-//! Where Duplicator may be: a table of bits whose row i has the states that answer Spoiler's first
-//! i moves.
+//! How Duplicator answers a move: the states by which one state answers it, or those of a row.
 
 ghost use Rattle.std.specs.Prelude.{◌≡◌, ◌+◌, ◌*◌, ◌/◌, ◌<◌, ◌≤◌, ◌↔◌, ◌⊎◌, ℕ, false, length, slice_index, IsTrue};
 ghost use Rattle.auto_core.specs.Rows.{cell_of, HasCell, HasBit};
 ghost use Rattle.auto_core.specs.Automaton.{IsAutomaton};
-ghost use Rattle.look_round.specs.Replies.{IsReply, HasReply, HasReplyFrom};
+ghost use Rattle.look_round.specs.Replies.{IsReply, IsInRow, HasReply, HasReplyFrom};
 
 use crate::moves::Move;
 use crate::sides::Side;
 use auto_core::{Auto, rows};
-use row_steps::{clear_table_row, meets, next_bit};
+use bit_rows::{clear_table_row, next_bit};
 
 /// Tells whether the reply answers the step: it has the step's letter, and its state matches the
 /// step's.
@@ -44,37 +43,6 @@ pub fn has_reply_in<S: Side>(side: &S, automaton: &Auto, from: u32, step: Move, 
     false
 }
 
-/// Tells whether one of the states of row `number` answers the step by a state of the other row.
-pub fn one_has_reply_in<S: Side>(
-    side: &S,
-    automaton: &Auto,
-    step: Move,
-    table: &[u64],
-    width: usize,
-    number: usize,
-    row: &[u64],
-) -> bool
-    requires valid { IsAutomaton automaton.now }
-    requires step { step.to < automaton.now.states }
-    requires here { number * width + width ≤ length table.now }
-    requires width { width ≡ (automaton.now.states + 63) / 64 }
-    requires row { length row.now ≡ width }
-    ensures { IsTrue result
-        ↔ ((r : ℕ) × HasReplyFrom (S.goes side.now automaton.now) (S.matches side.now automaton.now) step.label step.to (HasReply table.now automaton.now.states width number) r × HasBit row.now r) }
-{
-    let mut at = 0;
-    while let Some(q) = next_bit(rows::row_at(table, width, number), at) {
-        if q >= automaton.states() as usize {
-            return false;
-        }
-        if has_reply_in(side, automaton, q as u32, step, row) {
-            return true;
-        }
-        at = q + 1;
-    }
-    false
-}
-
 /// Adds to the row of the table the states by which `from` answers the step.
 fn mark_replies<S: Side>(
     side: &S,
@@ -103,64 +71,35 @@ fn mark_replies<S: Side>(
     }
 }
 
-/// Writes into the row after `number` the states by which the states of row `number` answer the
-/// step.
-fn step_replies<S: Side>(
+/// Writes into row `number` of the table the states by which the states of the row `from` answer
+/// the step.
+pub fn step_replies<S: Side>(
     side: &S,
     automaton: &Auto,
     step: Move,
+    from: &[u64],
     table: &mut [u64],
     width: usize,
     number: usize,
 )
     requires valid { IsAutomaton automaton.now }
     requires step { step.to < automaton.now.states }
+    requires from { length from.now ≡ width }
     requires here { number * width + width ≤ length table.old }
-    requires next { (number + 1) * width + width ≤ length table.old }
     requires width { width ≡ (automaton.now.states + 63) / 64 }
-    ensures next { (r : ℕ)
-        → HasReply table.new automaton.now.states width (number + 1) r
-        ↔ HasReplyFrom (S.goes side.now automaton.now) (S.matches side.now automaton.now) step.label step.to (HasReply table.old automaton.now.states width number) r }
-    ensures others { (i r : ℕ) → r < width * 64 → ¬ (i ≡ number + 1)
+    ensures here { (r : ℕ)
+        → HasReply table.new automaton.now.states width number r
+        ↔ HasReplyFrom (S.goes side.now automaton.now) (S.matches side.now automaton.now) step.label step.to (IsInRow from.now automaton.now.states) r }
+    ensures others { (i r : ℕ) → r < width * 64 → ¬ (i ≡ number)
         → cell_of table.new width i r ≡ cell_of table.old width i r }
 {
-    clear_table_row(table, width, number + 1);
+    clear_table_row(table, width, number);
     let mut at = 0;
-    while let Some(q) = next_bit(rows::row_at(table, width, number), at) {
+    while let Some(q) = next_bit(from, at) {
         if q >= automaton.states() as usize {
             return;
         }
-        mark_replies(side, automaton, q as u32, step, table, width, number + 1);
+        mark_replies(side, automaton, q as u32, step, table, width, number);
         at = q + 1;
     }
-}
-
-/// Writes into the row after `number` the states by which the states of row `number` answer the
-/// step, and tells whether one of them is a state of the other row.
-pub fn step_into<S: Side>(
-    side: &S,
-    automaton: &Auto,
-    step: Move,
-    table: &mut [u64],
-    width: usize,
-    number: usize,
-    row: &[u64],
-) -> bool
-    requires valid { IsAutomaton automaton.now }
-    requires step { step.to < automaton.now.states }
-    requires here { number * width + width ≤ length table.old }
-    requires next { (number + 1) * width + width ≤ length table.old }
-    requires width { width ≡ (automaton.now.states + 63) / 64 }
-    requires row { length row.now ≡ width }
-    requires states { (q : ℕ) → HasBit row.now q → q < automaton.now.states }
-    ensures told { IsTrue result
-        ↔ ((r : ℕ) × HasReplyFrom (S.goes side.now automaton.now) (S.matches side.now automaton.now) step.label step.to (HasReply table.old automaton.now.states width number) r × HasBit row.now r) }
-    ensures next { (r : ℕ)
-        → HasReply table.new automaton.now.states width (number + 1) r
-        ↔ HasReplyFrom (S.goes side.now automaton.now) (S.matches side.now automaton.now) step.label step.to (HasReply table.old automaton.now.states width number) r }
-    ensures others { (i r : ℕ) → r < width * 64 → ¬ (i ≡ number + 1)
-        → cell_of table.new width i r ≡ cell_of table.old width i r }
-{
-    step_replies(side, automaton, step, table, width, number);
-    meets(row, rows::row_at(table, width, number + 1))
 }

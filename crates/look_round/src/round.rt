@@ -3,21 +3,21 @@
 
 ghost use Rattle.std.specs.Prelude.{◌≡◌, ◌+◌, ◌*◌, ◌/◌, ◌<◌, ◌≤◌, ◌↔◌, ℕ, length, IsTrue};
 ghost use Rattle.auto_core.specs.Automaton.{IsAutomaton};
+ghost use Rattle.auto_core.specs.Rows.{cell_of};
 ghost use Rattle.auto_core.specs.Game.{Round, Holds};
 ghost use Rattle.look_round.specs.Answering.{AreRowsOfAnswers};
 ghost use Rattle.look_round.specs.Known.{AreKnown};
 ghost use Rattle.look_round.specs.Replies.{HasReply, HasReplyFrom, RoundFrom, RoundAfter, HasRows, KeepsRows};
 
 use crate::answering::Answering;
-use crate::known::{is_known, note};
+use crate::known::Known;
 use crate::list_rounds::{Told, told_by_lists};
 use crate::moves::Move;
-use crate::replies;
 use crate::scratch::Scratch;
 use crate::sides::Side;
 use auto_core::{Auto, rows};
 use bit_rel::Rel;
-use row_steps::{clear_table_row, next_bit};
+use bit_rows::{clear_table_row, meets, next_bit, write_row};
 use smallvec::SmallVec;
 
 /// Tells whether it is known that a state of row `number` of the table answers the step by a
@@ -49,12 +49,52 @@ fn is_met<S: Side>(
         if q >= automaton.states() as usize {
             return false;
         }
-        if rows::has_bit(answers, q) {
+        let Some(next) = next_bit(answers, q) else {
+            return false;
+        };
+        if next == q {
             return true;
         }
-        at = q + 1;
+        at = next;
     }
     false
+}
+
+/// Writes into the row after `number` the states by which the states of row `number` answer the
+/// step, and tells whether the step's state is related to one of them.
+fn step_into<S: Side>(
+    side: &S,
+    automaton: &Auto,
+    rel: &Rel,
+    left: u32,
+    step: Move,
+    sets: &mut [u64],
+    width: usize,
+    number: usize,
+    known: &mut Known,
+) -> bool
+    requires valid { IsAutomaton automaton.now }
+    requires step { step.to < automaton.now.states }
+    requires equal { rel.now.size ≡ automaton.now.states }
+    requires here { number * width + width ≤ length sets.old }
+    requires next { (number + 1) * width + width ≤ length sets.old }
+    requires width { width ≡ (automaton.now.states + 63) / 64 }
+    requires known { AreKnown (S.goes side.now automaton.now) (S.matches side.now automaton.now)
+        (Holds rel.now.pairs) automaton.now.states known.old }
+    ensures told { IsTrue result
+        ↔ ((r : ℕ) × HasReplyFrom (S.goes side.now automaton.now) (S.matches side.now automaton.now) step.label step.to (HasReply sets.old automaton.now.states width number) r × Holds rel.now.pairs step.to r) }
+    ensures next { (r : ℕ)
+        → HasReply sets.new automaton.now.states width (number + 1) r
+        ↔ HasReplyFrom (S.goes side.now automaton.now) (S.matches side.now automaton.now) step.label step.to (HasReply sets.old automaton.now.states width number) r }
+    ensures others { (i r : ℕ) → r < width * 64 → ¬ (i ≡ number + 1)
+        → cell_of sets.new width i r ≡ cell_of sets.old width i r }
+    ensures known { AreKnown (S.goes side.now automaton.now) (S.matches side.now automaton.now)
+        (Holds rel.now.pairs) automaton.now.states known.new }
+{
+    let row = rows::row_at(sets, width, number);
+    let place = known.find(side, automaton, left, step, row);
+    write_row(sets, width, number + 1, known.replies_at(place));
+    meets(rel.row(step.to), rows::row_at(sets, width, number + 1))
 }
 
 /// Tells whether Spoiler's paths of `left` moves, or shorter ones to a dead end, are answered where
@@ -70,10 +110,8 @@ fn step_answered<S: Side>(
     step: Move,
     path: &mut SmallVec<Move, 6>,
     sets: &mut [u64],
-    letters: &mut [u32],
-    held: &mut [u64],
-    known: &mut [u64],
     width: usize,
+    known: &mut Known,
 ) -> bool
     requires valid { IsAutomaton automaton.now }
     requires left { 1 ≤ left }
@@ -85,49 +123,55 @@ fn step_answered<S: Side>(
     requires width { width ≡ (automaton.now.states + 63) / 64 }
     requires path { length path.old.items + left ≤ path.old.capacity }
     requires sets { HasRows sets.old width (length path.old.items + left) }
-    requires letters { left < length letters.old }
-    requires held { HasRows held.old width left }
-    requires known { HasRows known.old width left }
-    requires answered { AreKnown (S.goes side.now automaton.now) (S.matches side.now automaton.now)
-        (Holds rel.now.pairs) automaton.now.states width letters.old held.old known.old }
+    requires known { AreKnown (S.goes side.now automaton.now) (S.matches side.now automaton.now)
+        (Holds rel.now.pairs) automaton.now.states known.old }
     ensures told { IsTrue result
         ↔ RoundAfter (S.goes side.now automaton.now) (S.matches side.now automaton.now) (Holds rel.now.pairs) left step.label step.to (HasReply sets.old automaton.now.states width (length path.old.items)) }
     ensures path { path.new.items ≡ path.old.items }
     ensures capacity { path.new.capacity ≡ path.old.capacity }
     ensures kept { KeepsRows sets.old sets.new width (length path.old.items) }
-    ensures answered { AreKnown (S.goes side.now automaton.now) (S.matches side.now automaton.now)
-        (Holds rel.now.pairs) automaton.now.states width letters.new held.new known.new }
+    ensures known { AreKnown (S.goes side.now automaton.now) (S.matches side.now automaton.now)
+        (Holds rel.now.pairs) automaton.now.states known.new }
 {
     let number = path.len();
-    let row = rows::row_at(sets, width, number);
-    if is_known(letters, held, known, width, left, step, row) {
-        return true;
-    }
     if is_met(side, automaton, rel, answering, step, sets, width, number) {
         return true;
     }
-    let related = rel.row(step.to);
-    if left == 1 {
-        return replies::one_has_reply_in(side, automaton, step, sets, width, number, related);
-    }
-    if replies::step_into(side, automaton, step, sets, width, number, related) {
+    if step_into(side, automaton, rel, left, step, sets, width, number, known) {
         return true;
+    }
+    if left == 1 {
+        return false;
     }
     if side.moves(automaton, step.to) == 0 {
         return false;
+    }
+    if known.is_answered(
+        side,
+        automaton,
+        left,
+        step,
+        rows::row_at(sets, width, number),
+    ) {
+        return true;
     }
     let fewer = left - 1;
     let to = step.to;
     path.push_reserved(step);
     let answered = round_from(
-        side, automaton, rel, answering, fewer, to, path, sets, letters, held, known, width,
+        side, automaton, rel, answering, fewer, to, path, sets, width, known,
     );
     path.pop();
     if !answered {
         return false;
     }
-    let row = rows::row_at(sets, width, number);
-    note(letters, held, known, width, left, step, row);
+    known.note(
+        side,
+        automaton,
+        left,
+        step,
+        rows::row_at(sets, width, number),
+    );
     true
 }
 
@@ -144,10 +188,8 @@ fn round_from<S: Side>(
     p: u32,
     path: &mut SmallVec<Move, 6>,
     sets: &mut [u64],
-    letters: &mut [u32],
-    held: &mut [u64],
-    known: &mut [u64],
     width: usize,
+    known: &mut Known,
 ) -> bool
     requires valid { IsAutomaton automaton.now }
     requires left { 1 ≤ left }
@@ -159,23 +201,20 @@ fn round_from<S: Side>(
     requires width { width ≡ (automaton.now.states + 63) / 64 }
     requires path { length path.old.items + left ≤ path.old.capacity }
     requires sets { HasRows sets.old width (length path.old.items + left) }
-    requires letters { left < length letters.old }
-    requires held { HasRows held.old width left }
-    requires known { HasRows known.old width left }
-    requires answered { AreKnown (S.goes side.now automaton.now) (S.matches side.now automaton.now)
-        (Holds rel.now.pairs) automaton.now.states width letters.old held.old known.old }
+    requires known { AreKnown (S.goes side.now automaton.now) (S.matches side.now automaton.now)
+        (Holds rel.now.pairs) automaton.now.states known.old }
     ensures told { IsTrue result
         ↔ RoundFrom (S.goes side.now automaton.now) (S.matches side.now automaton.now) (Holds rel.now.pairs) left p (HasReply sets.old automaton.now.states width (length path.old.items)) }
     ensures path { path.new.items ≡ path.old.items }
     ensures capacity { path.new.capacity ≡ path.old.capacity }
     ensures kept { KeepsRows sets.old sets.new width (length path.old.items) }
-    ensures answered { AreKnown (S.goes side.now automaton.now) (S.matches side.now automaton.now)
-        (Holds rel.now.pairs) automaton.now.states width letters.new held.new known.new }
+    ensures known { AreKnown (S.goes side.now automaton.now) (S.matches side.now automaton.now)
+        (Holds rel.now.pairs) automaton.now.states known.new }
 {
     for at in 0..side.moves(automaton, p) {
         let step = side.nth(automaton, p, at);
         if !step_answered(
-            side, automaton, rel, answering, left, step, path, sets, letters, held, known, width,
+            side, automaton, rel, answering, left, step, path, sets, width, known,
         ) {
             return false;
         }
@@ -193,9 +232,7 @@ fn whole_round<S: Side>(
     q: u32,
     path: &mut SmallVec<Move, 6>,
     sets: &mut [u64],
-    letters: &mut [u32],
-    held: &mut [u64],
-    known: &mut [u64],
+    known: &mut Known,
 ) -> bool
     requires look { 1 ≤ look }
     requires answers { AreRowsOfAnswers (S.goes side.now automaton.now)
@@ -206,20 +243,19 @@ fn whole_round<S: Side>(
     requires right { q < automaton.now.states }
     requires path { look ≤ path.old.capacity }
     requires sets { length sets.old ≡ (look + 1) * ((automaton.now.states + 63) / 64) }
-    requires letters { length letters.old ≡ look + 1 }
-    requires held { length held.old ≡ (look + 1) * ((automaton.now.states + 63) / 64) }
-    requires known { length known.old ≡ (look + 1) * ((automaton.now.states + 63) / 64) }
+    requires known { known.old.width ≡ (automaton.now.states + 63) / 64 }
     ensures told { IsTrue result
         ↔ Round (S.goes side.now automaton.now) (S.goes side.now automaton.now) (S.matches side.now automaton.now) look (Holds rel.now.pairs) p q }
     ensures capacity { path.new.capacity ≡ path.old.capacity }
+    ensures known { known.new.width ≡ known.old.width }
 {
     let width = rows::words_for(automaton.states());
     path.clear();
     clear_table_row(sets, width, 0);
     rows::set_cell(sets, width, 0, q as usize);
-    rows::clear_row(known);
+    known.forget();
     round_from(
-        side, automaton, rel, answering, look, p, path, sets, letters, held, known, width,
+        side, automaton, rel, answering, look, p, path, sets, width, known,
     )
 }
 
@@ -296,8 +332,6 @@ pub fn round_holds_by<S: Side>(
             q,
             &mut scratch.path,
             &mut scratch.sets,
-            &mut scratch.letters,
-            &mut scratch.held,
             &mut scratch.known,
         ),
     }

@@ -2,6 +2,7 @@
 
 ghost use Rattle.std.specs.Prelude.{◌≡◌, IfOk};
 
+use crate::known::Known;
 use crate::moves::Move;
 use auto_core::{Auto, Memory, rows};
 use smallvec::SmallVec;
@@ -12,7 +13,7 @@ use std::marker::Model;
 const MOST_LISTED: usize = 256;
 
 /// Room for the rounds on an automaton at a lookahead: Spoiler's path, a row of bits for each of
-/// its places and for its start, room for what a round remembers, and for the states in which
+/// its places and for its start, what a round has found out, and room for the states in which
 /// Duplicator may be, where they are few. Contracts see the number of states and the lookahead that
 /// it was made for.
 #[derive(Drop)]
@@ -22,9 +23,7 @@ pub struct Scratch {
     pub(crate) look: u32,
     pub(crate) path: SmallVec<Move, 6>,
     pub(crate) sets: Vec<u64>,
-    pub(crate) letters: Vec<u32>,
-    pub(crate) held: Vec<u64>,
-    pub(crate) known: Vec<u64>,
+    pub(crate) known: Known,
     pub(crate) listed: Vec<u32>,
 }
 
@@ -48,9 +47,7 @@ impl Scratch {
         let states = automaton.states();
         let room = (look as usize + 1) * rows::words_for(states);
         let sets = vec![in alloc; 0; room]?;
-        let letters = vec![in alloc; 0; look as usize + 1]?;
-        let held = vec![in alloc; 0; room]?;
-        let known = vec![in alloc; 0; room]?;
+        let known = Known::new(alloc, states, look)?;
         let listed = vec![in alloc; 0; MOST_LISTED]?;
         Ok(Scratch {
             alloc,
@@ -58,8 +55,6 @@ impl Scratch {
             look,
             path: SmallVec::new(alloc),
             sets,
-            letters,
-            held,
             known,
             listed,
         })

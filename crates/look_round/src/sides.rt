@@ -7,7 +7,7 @@ ghost use Rattle.auto_core.specs.Game.{BackwardMoves, MatchesForward, MatchesBac
 ghost use Rattle.auto_core.specs.declared.parts.Trans.{Trans};
 ghost use Rattle.look_round.specs.declared.moves.Move.{Move};
 ghost use Rattle.look_round.specs.Sides.{move, forward_moves, backward_moves, turned_trans};
-ghost use Rattle.path_laws.proofs.MatchLemmas.{forward_trans, backward_trans};
+ghost use Rattle.auto_laws.proofs.MatchLemmas.{forward_trans, backward_trans};
 ghost use Rattle.look_round.specs.SideLaws.{forward_lists, forward_stays, forward_sees, backward_lists, backward_stays, backward_sees};
 
 use crate::moves::Move;

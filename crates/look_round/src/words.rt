@@ -7,8 +7,7 @@ ghost use Rattle.look_round.specs.Words.{LeadsToPlace, AddsColumns, AreColumns, 
 
 use crate::sides::Side;
 use auto_core::{Auto, rows};
-use row_steps::{mark_below, next_bit, write_row};
-use transposed::transpose;
+use bit_rows::{mark_below, next_bit, transpose, write_row};
 
 /// How many words are lengthened at once: one for each bit of a state's word.
 const PLACES: usize = 64;

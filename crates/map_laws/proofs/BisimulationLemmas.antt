@@ -7,7 +7,7 @@ use Rattle.auto_core.specs.Game.{MatchesForward, AllMatched}
 use Rattle.auto_core.specs.Quotient.{class_of, IsQuotient}
 use Rattle.auto_core.specs.declared.parts.Mode.TheVariants.{Buchi, Finite}
 use Rattle.auto_core.proofs.MoveLemmas.{move_in_range}
-use Rattle.path_laws.proofs.TransferLemmas.{transfer, transfer_words}
+use Rattle.auto_laws.proofs.TransferLemmas.{transfer, transfer_words}
 use Rattle.map_laws.specs.Bisimulation.{IsBisimulation, QuotientCarriesOver, BisimulationQuotientIsSame}
 use Rattle.map_laws.proofs.MapLemmas.{carried_over}
 

@@ -8,7 +8,7 @@ use Rattle.auto_core.specs.Accept.{AcceptsLasso, AcceptsWord}
 use Rattle.auto_core.specs.Quotient.{class_of}
 use Rattle.auto_core.specs.declared.parts.Mode.TheVariants.{Buchi, Finite}
 use Rattle.auto_core.proofs.MoveLemmas.{move_in_range}
-use Rattle.path_laws.proofs.PumpingLemmas.{reblock}
+use Rattle.auto_laws.proofs.PumpingLemmas.{reblock}
 use Rattle.map_laws.specs.Maps.{CarriesOverBy, JoinsEqualColumns, classes_in, IsWordOver, IsRenamed}
 use Rattle.map_laws.specs.Laws.{ClassesAreAccepted, ClassesTellTheSame, IsLassoOfClasses, LettersAreFound, InclusionOverClasses, SeparationOverClasses, SeparationByLetters}
 use Rattle.map_laws.proofs.MapLemmas.{map-repeated, images_accepted, images_of_words}

@@ -5,7 +5,7 @@ use Rattle.auto_core.specs.Automaton.{Automaton, Moves, IsAutomaton, IsAccepting
 use Rattle.auto_core.specs.Run.{Run}
 use Rattle.auto_core.specs.Useful.{Reaches, IsOnCycle}
 use Rattle.auto_core.proofs.PathLemmas.{accepting_from_test}
-use Rattle.path_laws.proofs.PumpingLemmas.{move_in_range}
+use Rattle.auto_laws.proofs.PumpingLemmas.{move_in_range}
 use Rattle.product_laws.specs.declared.RankedPair.{RankedPair}
 use Rattle.product_laws.specs.Ranked.{IsDeterministic, HasRank, HasPair, RankGoesOn, IsRankedProduct}
 use Rattle.product_laws.specs.Reached.{GoesTo, IsReachedPair, ReachesGoal, MovesReachGoals}

@@ -5,7 +5,7 @@ use Rattle.std.proofs.lemmas.List.Elements.{All-contains}
 use Rattle.auto_core.specs.Automaton.{Automaton, IsAutomaton, IsAccepting, is_accepting}
 use Rattle.auto_core.specs.Run.{Run, repeated}
 use Rattle.auto_core.proofs.PathLemmas.{run_join, accepting_from_test, test_from_accepting, or-assoc}
-use Rattle.path_laws.proofs.PumpingLemmas.{move_in_range}
+use Rattle.auto_laws.proofs.PumpingLemmas.{move_in_range}
 use Rattle.product_laws.specs.Ranked.{IsDeterministic}
 use Rattle.product_laws.specs.Reached.{Goes, LeadsTo, IsReachedPair, IsBadCycle, ReachesGoal}
 use Rattle.product_laws.specs.Laws.{CycleSeparates, LostRunSeparates, IncludedHasNoFault}

@@ -7,7 +7,7 @@ use Rattle.auto_core.specs.Accept.{AcceptsLasso, Includes}
 use Rattle.auto_core.specs.Game.{Chain}
 use Rattle.auto_core.specs.declared.parts.Mode.TheVariants.{Buchi}
 use Rattle.auto_core.proofs.PathLemmas.{path_of_run, run_join, accepting_from_test, test_from_accepting}
-use Rattle.path_laws.proofs.PumpingLemmas.{chain_repeats, run_in_range, repeated-add, reblock}
+use Rattle.auto_laws.proofs.PumpingLemmas.{chain_repeats, run_in_range, repeated-add, reblock}
 use Rattle.product_laws.specs.declared.RankedPair.{RankedPair}
 use Rattle.product_laws.specs.Ranked.{HasRank, RankGoesOn, IsRankedProduct}
 use Rattle.product_laws.specs.Laws.{RankedProductIncludes}

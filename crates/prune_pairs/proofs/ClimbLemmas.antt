@@ -2,8 +2,8 @@
 use Rattle.std.proofs.Common.{◌≡◌, ℕ, zero, suc, ◌+◌, ◌<◌, ◌⊎◌, inl, inr, List, [], ◌∷◌, arith}
 use Rattle.auto_core.specs.Run.{PathBy}
 use Rattle.auto_core.specs.Game.{Strict}
-use Rattle.path_laws.specs.Games.{IsFollowed}
-use Rattle.path_laws.proofs.MatchLemmas.{matched_trans}
+use Rattle.auto_laws.specs.Games.{IsFollowed}
+use Rattle.auto_laws.proofs.MatchLemmas.{matched_trans}
 use Rattle.prune_pairs.proofs.TowerLemmas.{Tower}
 
 module _ (M N : ℕ → ℕ → ℕ → Type 0) (ok R : ℕ → ℕ → Type 0) (ok_joins : (p q r : ℕ) → ok p q → ok q r → ok p r)

@@ -5,7 +5,7 @@ use Rattle.auto_core.specs.Automaton.{Automaton, IsAutomaton, IsBefore, IsSucces
 use Rattle.auto_core.specs.Pruning.{AtSource, AtTarget, IsBetterAt}
 use Rattle.auto_core.specs.Rows.{bit_of, HasBit}
 use Rattle.auto_core.specs.declared.parts.Trans.{Trans}
-use Rattle.row_steps.specs.Walks.{IsNextBit}
+use Rattle.bit_rows.specs.Walks.{IsNextBit}
 use Rattle.prune_pairs.specs.Least.{IsLeastOf, HasNone, IsLeastBetter}
 
 -- by pair 1 the sources are the same, by pair 2 the targets

@@ -13,7 +13,7 @@ use Rattle.auto_core.proofs.PathLemmas.{Contains-here, Contains-later, Contains-
 use Rattle.auto_core.proofs.MoveLemmas.{number_of, move_at}
 use Rattle.auto_core.proofs.MemberLemmas.{Rises, rises_from_pairs, same_members, map_from}
 use Rattle.auto_core.proofs.SetLemmas.{same_automaton, transitions_rise}
-use Rattle.path_laws.proofs.PumpingLemmas.{chain_weaker}
+use Rattle.auto_laws.proofs.PumpingLemmas.{chain_weaker}
 use Rattle.prune_pairs.specs.Least.{IsLeastBetter, AreLeastBetter, numbers_of_gone}
 use Rattle.prune_pairs.specs.Laws.{CutIsOne, PrunedIsOne, CutOfNothing, CutIsShorter, PrunedIsShorter, PrunedIsItself, AgreeOnStates, BetterGoesByStates, RemovableArePruned, RemovableIsOne}
 use Rattle.prune_pairs.specs.declared.removing.Gone.{Gone}

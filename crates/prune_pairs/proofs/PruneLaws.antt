@@ -11,13 +11,13 @@ use Rattle.auto_core.specs.declared.parts.Trans.{Trans}
 use Rattle.auto_core.specs.declared.parts.Mode.TheVariants.{Buchi, Finite}
 use Rattle.auto_core.proofs.PathLemmas.{Contains-from_test, test_from_Contains}
 use Rattle.auto_core.proofs.MoveLemmas.{number_of, move_at}
-use Rattle.path_laws.specs.Paths.{turned}
-use Rattle.path_laws.specs.Transfer.{FollowsFromStart}
-use Rattle.path_laws.proofs.MatchLemmas.{forward_refl, forward_trans, backward_trans, matched_refl, matched_weaker, matched_end}
-use Rattle.path_laws.proofs.TurnLemmas.{path_turned, end_of-turned, turned-turned, matched_turned}
-use Rattle.path_laws.proofs.GameLemmas.{close_refl, close_trans}
-use Rattle.path_laws.proofs.AppliedLemmas.{followed_forward, followed_backward, followed_move_by_move, followed_move_by_move_backward}
-use Rattle.path_laws.proofs.TransferLemmas.{transfer, transfer_words}
+use Rattle.auto_laws.specs.Paths.{turned}
+use Rattle.auto_laws.specs.Transfer.{FollowsFromStart}
+use Rattle.auto_laws.proofs.MatchLemmas.{forward_refl, forward_trans, backward_trans, matched_refl, matched_weaker, matched_end}
+use Rattle.auto_laws.proofs.TurnLemmas.{path_turned, end_of-turned, turned-turned, matched_turned}
+use Rattle.auto_laws.proofs.GameLemmas.{close_refl, close_trans}
+use Rattle.auto_laws.proofs.AppliedLemmas.{followed_forward, followed_backward, followed_move_by_move, followed_move_by_move_backward}
+use Rattle.auto_laws.proofs.TransferLemmas.{transfer, transfer_words}
 use Rattle.prune_pairs.proofs.FindLemmas.{same_source, same_target}
 use Rattle.prune_pairs.proofs.TowerLemmas.{towers_are_low}
 use Rattle.prune_pairs.proofs.ClimbLemmas.{climbed}

@@ -5,9 +5,9 @@
 use Rattle.std.proofs.Common.{◌≡◌, ℕ, zero, suc, ◌+◌, ◌<◌, ◌⊎◌, inl, inr, List, [], ◌∷◌, arith}
 use Rattle.auto_core.specs.Run.{PathBy, end_of}
 use Rattle.auto_core.specs.Game.{AllMatched, Strict}
-use Rattle.path_laws.specs.Games.{IsFollowed}
-use Rattle.path_laws.proofs.MatchLemmas.{matched_trans, matched_weaker, matched_refl, matched_end}
-use Rattle.path_laws.proofs.TurnLemmas.{Flipped}
+use Rattle.auto_laws.specs.Games.{IsFollowed}
+use Rattle.auto_laws.proofs.MatchLemmas.{matched_trans, matched_weaker, matched_refl, matched_end}
+use Rattle.auto_laws.proofs.TurnLemmas.{Flipped}
 use Rattle.prune_pairs.proofs.TowerLemmas.{Tower, tower_up}
 
 pub path_as : (M N : ℕ → ℕ → ℕ → Type 0) → ((p a q : ℕ) → M p a q → N p a q) → (p : ℕ) (w ps : List ℕ) → PathBy M p w ps → PathBy N p w ps

@@ -2,8 +2,8 @@
 use Rattle.std.proofs.Common.{◌≡◌, ℕ, zero, suc, ◌+◌, ◌<◌, inl, inr, List, [], ◌∷◌, refl, sym, ap, subst, arith}
 use Rattle.auto_core.specs.Game.{Chain, Close, Strict, Holds, ArePairsBelow}
 use Rattle.auto_core.proofs.PathLemmas.{Contains-cons_cases, none_in_nil}
-use Rattle.path_laws.proofs.PumpingLemmas.{chain_join}
-use Rattle.path_laws.proofs.AppliedLemmas.{strict_steps_are_few}
+use Rattle.auto_laws.proofs.PumpingLemmas.{chain_join}
+use Rattle.auto_laws.proofs.AppliedLemmas.{strict_steps_are_few}
 
 -- c strict steps lead up to p
 abbrev pub Tower : (ℕ → ℕ → Type 0) → ℕ → ℕ → Type 0

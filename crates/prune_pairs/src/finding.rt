@@ -9,7 +9,7 @@ ghost use Rattle.prune_pairs.specs.Least.{IsLeastOf, HasNone, IsTransition, HasN
 use crate::comparing::{at_source, better};
 use auto_core::{Auto, Span};
 use bit_rel::Rel;
-use row_steps::next_bit;
+use bit_rows::next_bit;
 
 /// The least transition of the range that is better than `t`.
 fn first_within(

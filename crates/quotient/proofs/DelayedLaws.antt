@@ -14,9 +14,9 @@ use Rattle.auto_core.specs.declared.parts.Mode.TheVariants.{Buchi}
 use Rattle.auto_core.proofs.PathLemmas.{accepting_from_test, test_from_accepting, none_in_nil, Contains-cons_cases}
 use Rattle.auto_core.proofs.MoveLemmas.{move_in_range}
 use Rattle.auto_core.proofs.ReachLemmas.{close_refl, close_trans, close_one}
-use Rattle.path_laws.specs.Transfer.{AcceptsWithin, AllMatchedWithin, FollowsWithin}
-use Rattle.path_laws.proofs.PumpingLemmas.{chain_short}
-use Rattle.path_laws.proofs.TransferLemmas.{delayed_transfer}
+use Rattle.auto_laws.specs.Transfer.{AcceptsWithin, AllMatchedWithin, FollowsWithin}
+use Rattle.auto_laws.proofs.PumpingLemmas.{chain_short}
+use Rattle.auto_laws.proofs.TransferLemmas.{delayed_transfer}
 use Rattle.quotient.specs.Laws.{DelayedQuotientIsSame}
 use Rattle.quotient.proofs.MergeLaws.{accepts_more}
 

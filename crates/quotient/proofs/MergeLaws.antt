@@ -12,13 +12,13 @@ use Rattle.auto_core.specs.declared.parts.Mode.TheVariants.{Buchi, Finite}
 use Rattle.auto_core.proofs.PathLemmas.{accepting_from_test, test_from_accepting}
 use Rattle.auto_core.proofs.MoveLemmas.{move_in_range}
 use Rattle.auto_core.proofs.SetLemmas.{same_automaton}
-use Rattle.path_laws.specs.Paths.{turned}
-use Rattle.path_laws.specs.Games.{IsFollowed}
-use Rattle.path_laws.specs.Transfer.{FollowsFromStart}
-use Rattle.path_laws.proofs.MatchLemmas.{forward_trans, backward_trans, matched_trans, matched_weaker}
-use Rattle.path_laws.proofs.TurnLemmas.{path_turned, end_of-turned, turned-turned, matched_turned}
-use Rattle.path_laws.proofs.AppliedLemmas.{followed_forward, followed_backward}
-use Rattle.path_laws.proofs.TransferLemmas.{transfer, transfer_words}
+use Rattle.auto_laws.specs.Paths.{turned}
+use Rattle.auto_laws.specs.Games.{IsFollowed}
+use Rattle.auto_laws.specs.Transfer.{FollowsFromStart}
+use Rattle.auto_laws.proofs.MatchLemmas.{forward_trans, backward_trans, matched_trans, matched_weaker}
+use Rattle.auto_laws.proofs.TurnLemmas.{path_turned, end_of-turned, turned-turned, matched_turned}
+use Rattle.auto_laws.proofs.AppliedLemmas.{followed_forward, followed_backward}
+use Rattle.auto_laws.proofs.TransferLemmas.{transfer, transfer_words}
 use Rattle.quotient.specs.Laws.{QuotientAcceptsMore, ForwardQuotientIsSame, BackwardQuotientIsSame, QuotientIsOne}
 
 -- ---- a path through classes has a path through states, from any member of its first class

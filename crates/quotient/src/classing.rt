@@ -8,7 +8,7 @@ ghost use Rattle.quotient.specs.Counting.{IsClassFor};
 use crate::classes::{Classes, counted};
 use auto_core::Memory;
 use bit_rel::Rel;
-use row_steps::next_bit;
+use bit_rows::next_bit;
 use std::alloc::Global;
 
 /// The class of a state before this one that the relation relates to it both ways; `next` where

@@ -18,14 +18,14 @@ use Rattle.ba_format.proofs.CountLemmas.{written_is_read}
 use Rattle.ba_format.proofs.FaultlessLemmas.{faultless_reads, read_is_within}
 use Rattle.ba_format.proofs.LabelLemmas.{labels_fit}
 use Rattle.ba_format.proofs.LawLemmas.{built_once, contains_first}
-use Rattle.reading_laws.proofs.WithLemmas.{with_labels, same_with, built_with, includes_then, written_same}
+use Rattle.ba_format.proofs.WithLemmas.{with_labels, same_with, built_with, includes_then, written_same}
 use Rattle.reduce_loop.specs.declared.steps.Kind.TheVariants.{Trim, Forward, Backward, Delayed}
 use Rattle.reduce_loop.specs.Kinds.{kinds_of, prunings}
 use Rattle.reduce_loop.specs.declared.steps.Foresight.{Foresight}
 use Rattle.reduce_loop.specs.Passes.{IsReduced}
 use Rattle.reduce_loop.specs.Settled.{IsSettled}
 use Rattle.reduce_loop.proofs.PassLemmas.{reduced_no_larger}
-use Rattle.rabit_replies.specs.declared.files.TheConstants.{FIRST_LIMITS}
+use Rattle.rabit_frame.specs.declared.files.TheConstants.{FIRST_LIMITS}
 use Rattle.rabit_cli.specs.Reduce.{printed_limits, ReadsBackSame}
 use Rattle.rabit_cli.proofs.LabelLemmas.{reduced_labels}
 

@@ -20,11 +20,11 @@ use Rattle.rabit_frame.specs.declared.parts.Reply.{Reply}
 use Rattle.rabit_frame.specs.Statuses.{status_number}
 use Rattle.rabit_frame.specs.Ending.{Sends}
 use Rattle.rabit_frame.specs.Reading.{only_said, ReadInTurn}
-use Rattle.rabit_replies.specs.Printed.{refused_text}
-use Rattle.rabit_replies.specs.Files.{ReadsPair, ReadsCertificate}
-use Rattle.rabit_replies.specs.Replies.{IsVerdictReply, SaysApart}
+use Rattle.rabit_frame.specs.Printed.{refused_text}
+use Rattle.rabit_frame.specs.FileKinds.{ReadsPair, ReadsCertificate}
+use Rattle.rabit_frame.specs.Replies.{IsVerdictReply, SaysApart}
 use Rattle.rabit_cli.specs.Check.{check_inputs, Concludes, MeansCheck, ShowsCheck}
-use Rattle.rabit_replies.proofs.VerdictLemmas.{one_verdict, puts_of_verdict, low_verdict}
+use Rattle.rabit_frame.proofs.VerdictLemmas.{one_verdict, puts_of_verdict, low_verdict}
 
 one_conclusion : (pair : Joined) (cert : Cert) (r s : Reply) → Concludes pair cert r → Concludes pair cert s → r ≡ s
 one_conclusion pair cert r s (inl (refusal, breaks, is)) (inl (other, breaks', is')) =

@@ -20,7 +20,7 @@ use Rattle.cert_value.specs.WellFormed.{upgraded}
 use Rattle.cert_value.proofs.UpgradeLemmas.{text_up}
 use Rattle.cert_check.specs.Laws.{IsValid}
 use Rattle.cert_check.proofs.RuleLemmas.{upgrade_alike}
-use Rattle.cross_text.specs.Text.{cross_text}
+use Rattle.cert_text.specs.CrossText.{cross_text}
 use Rattle.cross_sim.proofs.WrittenLemmas.{greatest_cross_keeps_rules}
 use Rattle.rabit_frame.specs.declared.parts.Value.TheVariants as value
 use Rattle.rabit_frame.specs.declared.parts.Status.TheVariants as status
@@ -33,10 +33,10 @@ use Rattle.rabit_frame.specs.Ending.{IsReplyFor, filed}
 use Rattle.rabit_frame.proofs.EndLemmas.{stop_plain}
 use Rattle.rabit_frame.proofs.OneLemmas.{one_read_in_turn, stop_or_read_in_turn}
 use Rattle.rabit_words.specs.Question.{NamesDiffer}
-use Rattle.rabit_replies.specs.Printed.{included_text, not_included_text, word_not_included_text, limit_text}
-use Rattle.rabit_replies.specs.declared.files.TheConstants.{FIRST_LIMITS, SECOND_LIMITS}
-use Rattle.rabit_replies.specs.Files.{automaton_file, certificate_file, ReadsCertificate, pair_inputs, certificate_put}
-use Rattle.rabit_replies.specs.Replies.{IsVerdictReply}
+use Rattle.rabit_frame.specs.Printed.{included_text, not_included_text, word_not_included_text, limit_text}
+use Rattle.rabit_frame.specs.declared.files.TheConstants.{FIRST_LIMITS, SECOND_LIMITS}
+use Rattle.rabit_frame.specs.FileKinds.{automaton_file, certificate_file, ReadsCertificate, pair_inputs, certificate_put}
+use Rattle.rabit_frame.specs.Replies.{IsVerdictReply}
 use Rattle.rabit_cli.specs.Property.{IsPropertyReply, property_puts}
 use Rattle.rabit_cli.specs.Empty.{empty_text, emptiness}
 use Rattle.rabit_cli.specs.Universal.{all_loops, universality}

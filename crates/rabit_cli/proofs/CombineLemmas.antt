@@ -33,12 +33,12 @@ use Rattle.rabit_frame.specs.declared.parts.Reply.{Reply}
 use Rattle.rabit_frame.specs.Statuses.{status_number}
 use Rattle.rabit_frame.specs.Ending.{Sends}
 use Rattle.rabit_frame.specs.Reading.{only_said, ReadInTurn}
-use Rattle.rabit_replies.specs.declared.files.TheConstants.{SECOND_LIMITS, FIRST_LIMITS}
-use Rattle.rabit_replies.specs.Files.{pair_inputs}
+use Rattle.rabit_frame.specs.declared.files.TheConstants.{SECOND_LIMITS, FIRST_LIMITS}
+use Rattle.rabit_frame.specs.FileKinds.{pair_inputs}
 use Rattle.rabit_cli.specs.Combine.{MeansCombined, IsCombinedReply, ShowsCombined}
 use Rattle.rabit_cli.specs.Union.{IsUnionOf, IsUnionReply, IsUnionStatus, MeansUnion, AcceptsWhatEitherDoes, ShowsUnion}
 use Rattle.rabit_cli.specs.Intersect.{IsIntersectionOf, IsIntersectionReply, IsIntersectionStatus, MeansIntersect, AcceptsWhatBothDo, ShowsIntersect}
-use Rattle.reading_laws.proofs.WithLemmas.{written_same}
+use Rattle.ba_format.proofs.WithLemmas.{written_same}
 use Rattle.rabit_cli.proofs.BackLemmas.{reads_with_room}
 
 -- ---- joined labels can be written

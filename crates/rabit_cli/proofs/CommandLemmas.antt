@@ -16,8 +16,8 @@ use Rattle.std.specs.Prelude.{option_map}
 use Rattle.rabit_words.specs.declared.parts.Question.{Question as Held}
 use Rattle.rabit_words.specs.Question.{Question, Include, Check, Reduce, Drill, Upgrade, Cross, CrossCheck, Equal, Batch, Union, Intersect, Shrink, Empty, Universal, IsProper, told, question_of}
 use Rattle.drawing.specs.Drawn.{IsInBounds}
-use Rattle.rabit_replies.specs.Printed.{usage_text}
-use Rattle.rabit_replies.specs.Replies.{usage_reply}
+use Rattle.rabit_frame.specs.Printed.{usage_text}
+use Rattle.rabit_frame.specs.Replies.{usage_reply}
 use Rattle.rabit_cli.specs.Batch.{IsBatch}
 use Rattle.rabit_cli.specs.Commands.{inputs_of, outputs_of, drill_of, Means, request_of, IfSingle, IfBatch, Shows, LeavesFiles}
 use Rattle.auto_core.specs.declared.parts.Mode.{Mode}

@@ -13,8 +13,8 @@ use Rattle.rabit_frame.specs.Ending.{IsReplyFor, Leaves, BeforeAndAfter, WasSaid
 use Rattle.rabit_frame.specs.Carrying.{EndsSo, IsCarriedOut}
 use Rattle.rabit_frame.proofs.OneLemmas.{stop_or_read_in_turn}
 use Rattle.rabit_words.specs.Question.{Question, Include, Check, Reduce, Drill, Upgrade, Cross, CrossCheck, Equal, Batch, Union, Intersect, Shrink, Empty, Universal}
-use Rattle.rabit_replies.specs.declared.files.TheConstants.{SECOND_LIMITS, FIRST_LIMITS}
-use Rattle.rabit_replies.specs.Files.{automaton_file, certificate_file, pair_inputs}
+use Rattle.rabit_frame.specs.declared.files.TheConstants.{SECOND_LIMITS, FIRST_LIMITS}
+use Rattle.rabit_frame.specs.FileKinds.{automaton_file, certificate_file, pair_inputs}
 use Rattle.rabit_cli.specs.Include.{terms_by}
 use Rattle.rabit_cli.specs.Reduce.{reduce_inputs}
 use Rattle.rabit_cli.specs.Cross.{cross_file}

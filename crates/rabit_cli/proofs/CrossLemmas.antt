@@ -7,7 +7,7 @@ use Rattle.ba_format.specs.declared.parts.Named.{Named}
 use Rattle.ba_format.specs.declared.parts.Joined.{Joined}
 use Rattle.ba_format.specs.Joining.{IsJoined}
 use Rattle.ba_format.proofs.LawLemmas.{joins_as_one}
-use Rattle.cross_text.specs.declared.types.Cross.{Cross}
+use Rattle.cert_text.specs.declared.cross.Cross.{Cross}
 use Rattle.cross_sim.specs.declared.faults.CrossRefusal.{CrossRefusal}
 use Rattle.cross_sim.specs.Rules.{KeepsCrossRules}
 use Rattle.cross_sim.proofs.CheckLemmas.{kept_rules_include, none_breaks, break_one}
@@ -24,8 +24,8 @@ use Rattle.rabit_frame.specs.Ending.{IsReplyFor, BeforeAndAfter, IsCutShort, Was
 use Rattle.rabit_frame.specs.Carrying.{EndsSo}
 use Rattle.rabit_frame.proofs.EndLemmas.{leaves_by_status}
 use Rattle.rabit_frame.proofs.OneLemmas.{one_read_in_turn, stop_or_read_in_turn}
-use Rattle.rabit_replies.specs.Printed.{by_simulation_text, refused_text}
-use Rattle.rabit_replies.specs.Files.{ReadsPair, pair_inputs}
+use Rattle.rabit_frame.specs.Printed.{by_simulation_text, refused_text}
+use Rattle.rabit_frame.specs.FileKinds.{ReadsPair, pair_inputs}
 use Rattle.rabit_cli.specs.Cross.{cross_put, HasInitialPair, IsCrossReply, MeansCross, HoldsCross, HoldsCrossFront, LeavesCross, ShowsCross, IsCrossStatus, cross_check_inputs, ConcludesCross, MeansCrossCheck, ShowsCrossCheck, IsCrossCheckStatus}
 
 -- ---- `cross`

@@ -18,9 +18,9 @@ use Rattle.ba_format.specs.Joining.{IsJoined, relabelled}
 use Rattle.ba_format.specs.Reading.{Reads}
 use Rattle.ba_format.specs.Sight.{same_text}
 use Rattle.ba_format.proofs.LawLemmas.{contains_first, joins_as_one}
-use Rattle.rabit_replies.specs.declared.files.TheConstants.{FIRST_LIMITS, SECOND_LIMITS}
+use Rattle.rabit_frame.specs.declared.files.TheConstants.{FIRST_LIMITS, SECOND_LIMITS}
 use Rattle.rabit_cli.specs.Empty.{empty_text, AcceptsNothing, emptiness}
-use Rattle.reading_laws.proofs.OwnLemmas.{stays_itself}
+use Rattle.ba_format.proofs.OwnLemmas.{stays_itself}
 use Rattle.rabit_cli.proofs.PairLemmas.{can_decide}
 use Rattle.rabit_cli.proofs.PropertyLemmas.{IsDecidable}
 

@@ -20,7 +20,7 @@ use Rattle.decide.proofs.UniqueLemmas.{one_answer}
 use Rattle.equal_batch.specs.declared.outcome.Both.{Both}
 use Rattle.equal_batch.specs.declared.outcome.Both.TheVariants as both
 use Rattle.equal_batch.specs.Equality.{said_by_both}
-use Rattle.reading_laws.proofs.TurnedLemmas.{join_order_does_not_matter}
+use Rattle.ba_format.proofs.TurnedLemmas.{join_order_does_not_matter}
 use Rattle.rabit_frame.specs.declared.parts.Value.{Value}
 use Rattle.rabit_frame.specs.declared.parts.Value.TheVariants as value
 use Rattle.rabit_frame.specs.declared.parts.Reply.{Reply}
@@ -32,10 +32,10 @@ use Rattle.rabit_frame.specs.Reading.{ReadInTurn, FileReads}
 use Rattle.rabit_frame.specs.Ending.{BeforeAndAfter, IsCutShort, WasSaid, filed, Sends}
 use Rattle.rabit_frame.specs.Carrying.{EndsSo}
 use Rattle.rabit_frame.proofs.EndLemmas.{leaves_by_status}
-use Rattle.rabit_replies.specs.declared.files.TheConstants.{SECOND_LIMITS}
-use Rattle.rabit_replies.specs.Files.{automaton_file}
+use Rattle.rabit_frame.specs.declared.files.TheConstants.{SECOND_LIMITS}
+use Rattle.rabit_frame.specs.FileKinds.{automaton_file}
 use Rattle.rabit_cli.specs.Include.{usual_terms, IsCertForWithin}
-use Rattle.rabit_replies.specs.Replies.{IsNo}
+use Rattle.rabit_frame.specs.Replies.{IsNo}
 use Rattle.rabit_cli.specs.Equal.{equal_inputs, first_apart_reply, both_reply, both_puts, IsEqualReply, MeansEqual, AreCertsBothWays, AreEqualPuts, HoldsEqual, HoldsEqualPart, LeavesEqual, Separates, IsListBody, ShowsEqual}
 use Rattle.rabit_cli.proofs.IncludeLemmas.{usual_bounded, cert_for_within}
 use Rattle.rabit_cli.proofs.PairLemmas.{within_first}

@@ -35,13 +35,13 @@ use Rattle.rabit_frame.specs.Reading.{ReadInTurn}
 use Rattle.rabit_frame.specs.Ending.{BeforeAndAfter, IsCutShort, WasSaid, filed, Sends}
 use Rattle.rabit_frame.specs.Carrying.{EndsSo}
 use Rattle.rabit_frame.proofs.EndLemmas.{leaves_by_status}
-use Rattle.rabit_replies.specs.Printed.{limit_text}
-use Rattle.rabit_replies.specs.declared.files.TheConstants.{FIRST_LIMITS, SECOND_LIMITS}
-use Rattle.rabit_replies.specs.Files.{ReadsPairWithin, ReadsPair, pair_inputs, certificate_put}
-use Rattle.rabit_replies.specs.Replies.{IsVerdictReply, SaysApart}
+use Rattle.rabit_frame.specs.Printed.{limit_text}
+use Rattle.rabit_frame.specs.declared.files.TheConstants.{FIRST_LIMITS, SECOND_LIMITS}
+use Rattle.rabit_frame.specs.FileKinds.{ReadsPairWithin, ReadsPair, pair_inputs, certificate_put}
+use Rattle.rabit_frame.specs.Replies.{IsVerdictReply, SaysApart}
 use Rattle.rabit_cli.specs.Include.{usual_terms, MeansInclude, IsCertForWithin, IsCertFor, HoldsAnswer, HoldsAnswerFront, LeavesDecided, ShowsInclude}
 use Rattle.rabit_cli.proofs.PairLemmas.{can_decide}
-use Rattle.rabit_replies.proofs.VerdictLemmas.{one_verdict, puts_of_verdict, low_verdict}
+use Rattle.rabit_frame.proofs.VerdictLemmas.{one_verdict, puts_of_verdict, low_verdict}
 
 -- the usual terms are bounded
 pub usual_bounded : (m : Mode) → AreBounded (usual_terms m)

@@ -26,13 +26,13 @@ use Rattle.rabit_frame.specs.declared.parts.Value.TheVariants as value
 use Rattle.rabit_frame.specs.declared.parts.Reply.{Reply}
 use Rattle.rabit_frame.specs.Files.{Input, Output}
 use Rattle.rabit_frame.specs.Reading.{only_said, FileReads, FileStops}
-use Rattle.rabit_replies.specs.declared.files.TheConstants.{FIRST_LIMITS, SECOND_LIMITS}
-use Rattle.rabit_replies.specs.Files.{automaton_file, pair_inputs, certificate_put}
+use Rattle.rabit_frame.specs.declared.files.TheConstants.{FIRST_LIMITS, SECOND_LIMITS}
+use Rattle.rabit_frame.specs.FileKinds.{automaton_file, pair_inputs, certificate_put}
 use Rattle.rabit_frame.proofs.OneLemmas.{one_read_in_turn, stop_or_read_in_turn}
-use Rattle.rabit_replies.specs.Replies.{IsVerdictReply}
+use Rattle.rabit_frame.specs.Replies.{IsVerdictReply}
 use Rattle.rabit_cli.specs.Laws.{IsCheckReply, CheckAgrees, IncludeIsChecked, AnswersAreAccepted}
 use Rattle.rabit_cli.proofs.IncludeLemmas.{cert_for, reads_cert}
-use Rattle.rabit_replies.proofs.VerdictLemmas.{puts_of_verdict}
+use Rattle.rabit_frame.proofs.VerdictLemmas.{puts_of_verdict}
 use Rattle.rabit_frame.specs.Ending.{filed}
 use Rattle.rabit_frame.proofs.EndLemmas.{stop_plain}
 

@@ -15,8 +15,8 @@ use Rattle.decide.specs.Answer.{HasFewParts}
 use Rattle.decide.specs.Laws.{CanDecide}
 use Rattle.ba_format.proofs.FaultlessLemmas.{read_is_within}
 use Rattle.shelf_io.specs.Shelf.{FileMap}
-use Rattle.rabit_replies.specs.declared.files.TheConstants.{FIRST_LIMITS, SECOND_LIMITS}
-use Rattle.rabit_replies.specs.Files.{ReadsPair}
+use Rattle.rabit_frame.specs.declared.files.TheConstants.{FIRST_LIMITS, SECOND_LIMITS}
+use Rattle.rabit_frame.specs.FileKinds.{ReadsPair}
 
 filter_shorter : {X : Type 0} (p : X → Bool) (xs : List X) → length (filter p xs) ≤ length xs
 filter_shorter p [] = omega arith

@@ -29,8 +29,8 @@ use Rattle.rabit_frame.specs.Reading.{ReadInTurn}
 use Rattle.rabit_frame.specs.Ending.{BeforeAndAfter, IsCutShort, WasSaid, filed, Sends}
 use Rattle.rabit_frame.specs.Carrying.{EndsSo}
 use Rattle.rabit_frame.proofs.EndLemmas.{leaves_by_status}
-use Rattle.rabit_replies.specs.Printed.{lasso_against_text, word_against_text, limit_text}
-use Rattle.rabit_replies.specs.declared.files.TheConstants.{SECOND_LIMITS}
+use Rattle.rabit_frame.specs.Printed.{lasso_against_text, word_against_text, limit_text}
+use Rattle.rabit_frame.specs.declared.files.TheConstants.{SECOND_LIMITS}
 use Rattle.rabit_cli.specs.Include.{usual_terms}
 use Rattle.rabit_cli.specs.Property.{property_inputs, Property, property_puts, IsPropertyReply, MeansProperty, IsPropertyCertFor, HoldsProperty, HoldsPropertyPart, LeavesProperty, IsRefuted, ShowsProperty}
 use Rattle.rabit_cli.proofs.IncludeLemmas.{usual_bounded, limit_in}

@@ -20,7 +20,7 @@ use Rattle.cert_value.specs.WellFormed.{WellFormed, is_version, is_short, are_sh
 use Rattle.cert_check.specs.Rules.{KeepsRules, BodyHolds}
 use Rattle.cert_check.specs.Laws.{IsValid}
 use Rattle.cert_check.proofs.RuleLemmas.{one_rule, none_kept}
-use Rattle.relation_rows.proofs.RowLemmas.{all_short}
+use Rattle.log_check.proofs.RowLemmas.{all_short}
 use Rattle.lasso_shrink.specs.Shrinking.{word_without, letters_of, lasso_without, IsShrunkLasso, IsShrunkWord}
 use Rattle.lasso_shrink.specs.Shrinking as shrinking
 use Rattle.lasso_shrink.proofs.LawLemmas.{shrunk_lasso_is_one, shrunk_word_is_one, shrinking_a_lasso_adds_no_letter, shrinking_a_word_adds_no_letter}
@@ -38,12 +38,12 @@ use Rattle.rabit_frame.specs.Ending.{IsReplyFor, BeforeAndAfter, IsCutShort, Was
 use Rattle.rabit_frame.specs.Carrying.{EndsSo}
 use Rattle.rabit_frame.proofs.EndLemmas.{leaves_by_status}
 use Rattle.rabit_frame.proofs.OneLemmas.{one_read_in_turn, stop_or_read_in_turn}
-use Rattle.rabit_replies.specs.Printed.{refused_text}
-use Rattle.rabit_replies.specs.Replies.{IsVerdictReply, SaysApart, IsNo}
-use Rattle.rabit_replies.specs.Files.{certificate_put}
+use Rattle.rabit_frame.specs.Printed.{refused_text}
+use Rattle.rabit_frame.specs.Replies.{IsVerdictReply, SaysApart, IsNo}
+use Rattle.rabit_frame.specs.FileKinds.{certificate_put}
 use Rattle.rabit_cli.specs.Check.{check_inputs}
 use Rattle.rabit_cli.specs.Shrink.{IsShrunkBody, shrunk_no, IsShrinkReply, MeansShrink, IsShrunkFor, HoldsShrunk, HoldsShrunkFront, LeavesShrunk, ShowsShrink, IsShrinkStatus}
-use Rattle.rabit_replies.proofs.VerdictLemmas.{HaveTexts, one_verdict, puts_of_verdict, loop_has_letters}
+use Rattle.rabit_frame.proofs.VerdictLemmas.{HaveTexts, one_verdict, puts_of_verdict, loop_has_letters}
 
 -- ---- what is left
 

@@ -5,8 +5,8 @@ use Rattle.ba_format.specs.Joining.{joined_labels}
 use Rattle.ba_format.specs.Laws.{IsLabelText}
 use Rattle.ba_format.specs.Sight.{AreDifferent}
 use Rattle.ba_format.specs.Writing.{written}
-use Rattle.reading_laws.proofs.WithLemmas.{with_labels, written_same}
-use Rattle.reading_laws.proofs.OwnLemmas.{labels_count, built_itself}
+use Rattle.ba_format.proofs.WithLemmas.{with_labels, written_same}
+use Rattle.ba_format.proofs.OwnLemmas.{labels_count, built_itself}
 use Rattle.rabit_cli.specs.Universal.{all_loops}
 use Rattle.rabit_cli.proofs.EmptyLemmas.{accepts_nothing}
 use Rattle.rabit_cli.proofs.UniversalLemmas.{labels_written, loops_writable, joined_itself, includes_all}

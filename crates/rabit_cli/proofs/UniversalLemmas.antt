@@ -34,12 +34,12 @@ use Rattle.ba_format.proofs.LawLemmas.{contains_cases, contains_first, contains_
 use Rattle.ba_format.proofs.SightLemmas.{same_text-refl, noted-new, not_found}
 use Rattle.ba_format.proofs.WrittenLemmas.{transition_entry_of, contents_of-written}
 use Rattle.cert_check.specs.Rules.{AreLabels}
-use Rattle.rabit_replies.specs.declared.files.TheConstants.{SECOND_LIMITS}
+use Rattle.rabit_frame.specs.declared.files.TheConstants.{SECOND_LIMITS}
 use Rattle.rabit_cli.specs.Universal.{loops, all_loops, IsLassoOver, AcceptsAll, universality}
-use Rattle.reading_laws.proofs.WithLemmas.{written_same, with_labels, includes_then}
-use Rattle.reading_laws.proofs.OwnLemmas.{labels_count, stays_itself}
+use Rattle.ba_format.proofs.WithLemmas.{written_same, with_labels, includes_then}
+use Rattle.ba_format.proofs.OwnLemmas.{labels_count, stays_itself}
 use Rattle.rabit_cli.proofs.PairLemmas.{can_decide, within_first}
-use Rattle.rabit_replies.proofs.VerdictLemmas.{loop_has_letters}
+use Rattle.rabit_frame.proofs.VerdictLemmas.{loop_has_letters}
 use Rattle.rabit_cli.proofs.PropertyLemmas.{IsDecidable}
 
 -- ---- the automaton of all loops is valid, and accepts everything

@@ -15,7 +15,7 @@ use Rattle.rabit_frame.specs.Ending.{IsReplyFor, BeforeAndAfter, IsCutShort, Was
 use Rattle.rabit_frame.specs.Carrying.{EndsSo}
 use Rattle.rabit_frame.proofs.EndLemmas.{leaves_by_status}
 use Rattle.rabit_frame.proofs.OneLemmas.{stop_or_read_in_turn}
-use Rattle.rabit_replies.specs.Files.{ReadsCertificate}
+use Rattle.rabit_frame.specs.FileKinds.{ReadsCertificate}
 use Rattle.rabit_cli.specs.Upgrade.{upgrade_inputs, upgrade_reply, MeansUpgrade, HoldsUpgraded, HoldsUpgradedFront, LeavesUpgraded, ShowsUpgrade, IsUpgradeStatus}
 
 pub one_upgrade : (name : List ℕ) (values : List Value) (r s : Reply) → MeansUpgrade name values r → MeansUpgrade name values s → r ≡ s

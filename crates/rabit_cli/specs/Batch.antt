@@ -23,7 +23,7 @@ use Rattle.rabit_frame.specs.Reading.{FileReads}
 use Rattle.rabit_frame.specs.Ending.{IsReplyFor, BeforeAndAfter, Leaves, Sends, filed, status_of}
 use Rattle.rabit_frame.specs.Carrying.{EndsSo, IsCarriedOut, FaultsHaveCauses, BegunByStatus, MissesInTurn, CallsShelf, IfResult}
 use Rattle.rabit_cli.specs.Include.{usual_terms, MeansInclude, ShowsInclude}
-use Rattle.rabit_replies.specs.Files.{pair_inputs}
+use Rattle.rabit_frame.specs.FileKinds.{pair_inputs}
 
 -- ---- one question
 

@@ -17,10 +17,10 @@ use Rattle.rabit_frame.specs.declared.parts.Value.TheVariants as value
 use Rattle.rabit_frame.specs.declared.parts.Reply.{Reply}
 use Rattle.rabit_frame.specs.Files.{Input}
 use Rattle.rabit_frame.specs.Ending.{Sends}
-use Rattle.rabit_replies.specs.Printed.{included_text, limit_text}
-use Rattle.rabit_replies.specs.declared.files.TheConstants.{FIRST_LIMITS, SECOND_LIMITS}
-use Rattle.rabit_replies.specs.Files.{automaton_file, certificate_file, ReadsPair, ReadsCertificate}
-use Rattle.rabit_replies.specs.Replies.{IsRefusedReply, IsVerdictReply, SaysApart}
+use Rattle.rabit_frame.specs.Printed.{included_text, limit_text}
+use Rattle.rabit_frame.specs.declared.files.TheConstants.{FIRST_LIMITS, SECOND_LIMITS}
+use Rattle.rabit_frame.specs.FileKinds.{automaton_file, certificate_file, ReadsPair, ReadsCertificate}
+use Rattle.rabit_frame.specs.Replies.{IsRefusedReply, IsVerdictReply, SaysApart}
 
 -- The files that it reads: the two automata, and then the certificate.
 abbrev pub check_inputs : List ℕ → List ℕ → List ℕ → List Input

@@ -17,8 +17,8 @@ use Rattle.rabit_frame.specs.declared.parts.Status.TheVariants as status
 use Rattle.rabit_frame.specs.declared.parts.Reply.{Reply}
 use Rattle.rabit_frame.specs.Reading.{only_said}
 use Rattle.rabit_frame.specs.Ending.{Sends}
-use Rattle.rabit_replies.specs.Files.{ReadsPair}
-use Rattle.rabit_replies.specs.Replies.{too_large_reply}
+use Rattle.rabit_frame.specs.FileKinds.{ReadsPair}
+use Rattle.rabit_frame.specs.Replies.{too_large_reply}
 
 -- The reply to what was read, if this is the one to the two joined automata.
 abbrev pub MeansCombined : (Joined → Reply → Type 0) → List Value → Reply → Type 0

@@ -10,9 +10,9 @@ use Rattle.rabit_frame.specs.Request.{Request}
 use Rattle.rabit_frame.specs.Ending.{BeforeAndAfter}
 use Rattle.rabit_frame.specs.Carrying.{IfResult, StaysUnwritten}
 use Rattle.rabit_words.specs.Question.{Question, Include, Check, Reduce, Drill, Upgrade, Cross, CrossCheck, Equal, Batch, Union, Intersect, Shrink, Empty, Universal, question_of}
-use Rattle.rabit_replies.specs.Replies.{usage_reply}
+use Rattle.rabit_frame.specs.Replies.{usage_reply}
 use Rattle.rabit_cli.specs.Check.{check_inputs, MeansCheck, ShowsCheck}
-use Rattle.rabit_replies.specs.Files.{pair_inputs}
+use Rattle.rabit_frame.specs.FileKinds.{pair_inputs}
 use Rattle.rabit_cli.specs.Include.{terms_by, MeansInclude, ShowsInclude, LeavesDecided}
 use Rattle.rabit_cli.specs.Reduce.{reduce_inputs, sight_by, MeansReduce, ShowsReduce}
 use Rattle.rabit_cli.specs.Drill.{MeansDrill, SaysDrill}

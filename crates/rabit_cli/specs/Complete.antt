@@ -7,7 +7,7 @@ use Rattle.rabit_frame.specs.declared.parts.Value.{Value}
 use Rattle.rabit_frame.specs.Files.{Input}
 use Rattle.rabit_frame.specs.Reading.{ReadInTurn}
 use Rattle.rabit_words.specs.Question.{Question, Include, Check, Reduce, Drill, Upgrade, Cross, CrossCheck, Equal, Batch, Union, Intersect, Shrink, Empty, Universal}
-use Rattle.rabit_replies.specs.Files.{pair_inputs}
+use Rattle.rabit_frame.specs.FileKinds.{pair_inputs}
 use Rattle.rabit_cli.specs.Reduce.{reduce_inputs}
 use Rattle.rabit_cli.specs.Upgrade.{IsUpgradeStatus}
 use Rattle.rabit_cli.specs.Cross.{IsCrossStatus, IsCrossCheckStatus}

@@ -9,8 +9,8 @@ use Rattle.auto_core.specs.declared.parts.Mode.{Mode}
 use Rattle.ba_format.specs.declared.parts.Named.{Named}
 use Rattle.ba_format.specs.declared.parts.Joined.{Joined}
 use Rattle.ba_format.specs.Joining.{IsJoined}
-use Rattle.cross_text.specs.declared.types.Cross.{Cross}
-use Rattle.cross_text.specs.Text.{cross_text}
+use Rattle.cert_text.specs.declared.cross.Cross.{Cross}
+use Rattle.cert_text.specs.CrossText.{cross_text}
 use Rattle.cross_sim.specs.declared.faults.CrossRefusal.{CrossRefusal}
 use Rattle.cross_sim.specs.Rules.{pairs_across, KeepsCrossRules, BreaksCrossRule}
 use Rattle.cross_sim.specs.Written.{IsCrossOfGreatest}
@@ -23,9 +23,9 @@ use Rattle.rabit_frame.specs.Files.{Input, Output}
 use Rattle.rabit_frame.specs.Reading.{FileReads, reply_with, only_said}
 use Rattle.rabit_frame.specs.Ending.{IsCutShort, Sends}
 use Rattle.rabit_frame.specs.Carrying.{LeavesByStatus}
-use Rattle.rabit_replies.specs.Printed.{by_simulation_text, no_relation_text, refused_text}
-use Rattle.rabit_replies.specs.declared.files.TheConstants.{FIRST_LIMITS, SECOND_LIMITS}
-use Rattle.rabit_replies.specs.Files.{automaton_file, ReadsPair}
+use Rattle.rabit_frame.specs.Printed.{by_simulation_text, no_relation_text, refused_text}
+use Rattle.rabit_frame.specs.declared.files.TheConstants.{FIRST_LIMITS, SECOND_LIMITS}
+use Rattle.rabit_frame.specs.FileKinds.{automaton_file, ReadsPair}
 
 -- ---- `cross`
 

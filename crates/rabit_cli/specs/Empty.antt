@@ -5,7 +5,7 @@ use Rattle.auto_core.specs.Accept.{AcceptsLasso, AcceptsWord}
 use Rattle.auto_core.specs.declared.parts.Mode.{Mode}
 use Rattle.auto_core.specs.declared.parts.Mode.TheVariants.{Buchi, Finite}
 use Rattle.ba_format.specs.Joining.{IsJoined}
-use Rattle.rabit_replies.specs.declared.files.TheConstants.{FIRST_LIMITS}
+use Rattle.rabit_frame.specs.declared.files.TheConstants.{FIRST_LIMITS}
 use Rattle.rabit_cli.specs.Property.{Property}
 
 -- The text of an automaton that accepts nothing: its initial state is not accepting, and it has no

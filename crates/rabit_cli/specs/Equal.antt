@@ -25,11 +25,11 @@ use Rattle.rabit_frame.specs.Reading.{reply_with}
 use Rattle.rabit_frame.specs.Ending.{filed, IsCutShort, Sends}
 use Rattle.rabit_frame.specs.Carrying.{LeavesByStatus}
 use Rattle.rabit_words.specs.declared.parts.TheConstants.{USUAL_LIMIT}
-use Rattle.rabit_replies.specs.Printed.{equal_text, first_apart_text, second_apart_text, limit_text}
-use Rattle.rabit_replies.specs.declared.files.TheConstants.{SECOND_LIMITS}
-use Rattle.rabit_replies.specs.Files.{automaton_file, certificate_put}
+use Rattle.rabit_frame.specs.Printed.{equal_text, first_apart_text, second_apart_text, limit_text}
+use Rattle.rabit_frame.specs.declared.files.TheConstants.{SECOND_LIMITS}
+use Rattle.rabit_frame.specs.FileKinds.{automaton_file, certificate_put}
 use Rattle.rabit_cli.specs.Include.{usual_terms, IsCertForWithin}
-use Rattle.rabit_replies.specs.Replies.{IsNo}
+use Rattle.rabit_frame.specs.Replies.{IsNo}
 
 -- The files that it reads: the two automata, each of which is a second one once.
 abbrev pub equal_inputs : List ℕ → List ℕ → List Input

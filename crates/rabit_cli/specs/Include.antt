@@ -26,10 +26,10 @@ use Rattle.rabit_frame.specs.declared.parts.Reply.{Reply}
 use Rattle.rabit_frame.specs.Ending.{IsCutShort, Sends}
 use Rattle.rabit_frame.specs.Carrying.{LeavesByStatus}
 use Rattle.rabit_words.specs.declared.parts.TheConstants.{USUAL_LOOK, USUAL_LIMIT, USUAL_LETTERS}
-use Rattle.rabit_replies.specs.Printed.{included_text, limit_text}
-use Rattle.rabit_replies.specs.declared.files.TheConstants.{FIRST_LIMITS}
-use Rattle.rabit_replies.specs.Files.{certificate_put, ReadsPairWithin, ReadsPair}
-use Rattle.rabit_replies.specs.Replies.{IsVerdictReply, SaysApart}
+use Rattle.rabit_frame.specs.Printed.{included_text, limit_text}
+use Rattle.rabit_frame.specs.declared.files.TheConstants.{FIRST_LIMITS}
+use Rattle.rabit_frame.specs.FileKinds.{certificate_put, ReadsPairWithin, ReadsPair}
+use Rattle.rabit_frame.specs.Replies.{IsVerdictReply, SaysApart}
 
 -- The terms of a decision that names neither a lookahead nor a limit nor letters.
 abbrev pub usual_terms : Mode → Terms

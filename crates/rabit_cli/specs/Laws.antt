@@ -9,7 +9,7 @@ use Rattle.ba_format.specs.declared.parts.Joined.{Joined}
 use Rattle.cert_value.specs.declared.types.Cert.{Cert}
 use Rattle.cert_value.specs.Text.{text}
 use Rattle.cert_value.specs.WellFormed.{upgraded}
-use Rattle.cross_text.specs.declared.types.Cross.{Cross}
+use Rattle.cert_text.specs.declared.cross.Cross.{Cross}
 use Rattle.equal_batch.specs.declared.questions.Question.{Question}
 use Rattle.decide.specs.Answer.{IsAnswer}
 use Rattle.decide.specs.Terms.{AreBounded}
@@ -30,9 +30,9 @@ use Rattle.rabit_frame.specs.Request.{request_with}
 use Rattle.rabit_frame.specs.Statuses.{status_number}
 use Rattle.rabit_frame.specs.Reading.{only_said}
 use Rattle.rabit_frame.specs.Ending.{IsReplyFor, filed}
-use Rattle.rabit_replies.specs.Files.{ReadsPair, ReadsCertificate, pair_inputs}
-use Rattle.rabit_replies.specs.Printed.{by_simulation_text}
-use Rattle.rabit_replies.specs.Replies.{IsVerdictReply}
+use Rattle.rabit_frame.specs.FileKinds.{ReadsPair, ReadsCertificate, pair_inputs}
+use Rattle.rabit_frame.specs.Printed.{by_simulation_text}
+use Rattle.rabit_frame.specs.Replies.{IsVerdictReply}
 use Rattle.rabit_cli.specs.Check.{check_inputs, MeansCheck}
 use Rattle.rabit_cli.specs.Include.{MeansInclude}
 use Rattle.rabit_cli.specs.Upgrade.{upgrade_inputs, MeansUpgrade}

@@ -1,5 +1,4 @@
 pub mod Include
-pub mod Asked
 pub mod Equal
 pub mod Property
 pub mod Empty

@@ -8,7 +8,7 @@ use Rattle.auto_ops.specs.declared.limits.TheConstants.{MOST_STATES, MOST_TRANSI
 use Rattle.equal_batch.specs.declared.questions.TheConstants.{MOST_LINES}
 use Rattle.rabit_frame.specs.declared.parts.TheConstants.{MOST_AUTOMATON_BYTES, MOST_CERTIFICATE_BYTES, MOST_LIST_BYTES}
 use Rattle.rabit_words.specs.declared.parts.TheConstants.{USUAL_LOOK, USUAL_LIMIT, USUAL_LETTERS}
-use Rattle.rabit_replies.specs.declared.files.TheConstants.{FIRST_LIMITS, SECOND_LIMITS}
+use Rattle.rabit_frame.specs.declared.files.TheConstants.{FIRST_LIMITS, SECOND_LIMITS}
 
 -- The most states, labels and transitions of a file or a result, each by itself.
 abbrev pub limits_of : ℕ → ℕ → ℕ → Limits

@@ -27,9 +27,9 @@ use Rattle.rabit_frame.specs.Files.{Input, Output}
 use Rattle.rabit_frame.specs.Reading.{reply_with, FileReads}
 use Rattle.rabit_frame.specs.Ending.{filed, IsCutShort, Sends}
 use Rattle.rabit_frame.specs.Carrying.{LeavesByStatus}
-use Rattle.rabit_replies.specs.Printed.{holds_text, lasso_against_text, word_against_text, limit_text}
-use Rattle.rabit_replies.specs.declared.files.TheConstants.{SECOND_LIMITS}
-use Rattle.rabit_replies.specs.Files.{automaton_file, certificate_put}
+use Rattle.rabit_frame.specs.Printed.{holds_text, lasso_against_text, word_against_text, limit_text}
+use Rattle.rabit_frame.specs.declared.files.TheConstants.{SECOND_LIMITS}
+use Rattle.rabit_frame.specs.FileKinds.{automaton_file, certificate_put}
 use Rattle.rabit_words.specs.declared.parts.TheConstants.{USUAL_LIMIT}
 use Rattle.rabit_cli.specs.Include.{usual_terms}
 

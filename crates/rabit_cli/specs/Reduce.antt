@@ -21,8 +21,8 @@ use Rattle.rabit_frame.specs.declared.parts.Reply.{Reply}
 use Rattle.rabit_frame.specs.Files.{Input}
 use Rattle.rabit_frame.specs.Reading.{only_said, FileReads}
 use Rattle.rabit_frame.specs.Ending.{Sends}
-use Rattle.rabit_replies.specs.declared.files.TheConstants.{FIRST_LIMITS}
-use Rattle.rabit_replies.specs.Files.{automaton_file}
+use Rattle.rabit_frame.specs.declared.files.TheConstants.{FIRST_LIMITS}
+use Rattle.rabit_frame.specs.FileKinds.{automaton_file}
 
 -- The file that it reads: the automaton.
 abbrev pub reduce_inputs : List ℕ → List Input

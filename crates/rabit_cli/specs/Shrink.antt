@@ -19,8 +19,8 @@ use Rattle.rabit_frame.specs.declared.parts.Value.TheVariants as value
 use Rattle.rabit_frame.specs.declared.parts.Reply.{Reply}
 use Rattle.rabit_frame.specs.Ending.{IsCutShort}
 use Rattle.rabit_frame.specs.Carrying.{LeavesByStatus}
-use Rattle.rabit_replies.specs.Files.{ReadsPair, ReadsCertificate, certificate_put}
-use Rattle.rabit_replies.specs.Replies.{nothing_to_shrink_reply, IsNo, IsRefusedReply, IsVerdictReply, SaysApart}
+use Rattle.rabit_frame.specs.FileKinds.{ReadsPair, ReadsCertificate, certificate_put}
+use Rattle.rabit_frame.specs.Replies.{nothing_to_shrink_reply, IsNo, IsRefusedReply, IsVerdictReply, SaysApart}
 
 -- The second body has what is left of the first one's lasso, or of its word.
 abbrev pub IsShrunkBody : Joined → Body → Body → Type 0

@@ -9,7 +9,7 @@ use Rattle.auto_core.specs.declared.parts.Trans.{Trans}
 use Rattle.ba_format.specs.Joining.{IsJoined}
 use Rattle.ba_format.specs.Writing.{written}
 use Rattle.cert_check.specs.Rules.{AreLabels}
-use Rattle.rabit_replies.specs.declared.files.TheConstants.{SECOND_LIMITS}
+use Rattle.rabit_frame.specs.declared.files.TheConstants.{SECOND_LIMITS}
 use Rattle.rabit_cli.specs.Property.{Property}
 
 -- A loop on the one state for each of so many labels.

@@ -14,8 +14,8 @@ use Rattle.rabit_frame.specs.Files.{Input}
 use Rattle.rabit_frame.specs.Reading.{reply_with}
 use Rattle.rabit_frame.specs.Ending.{IsCutShort, Sends}
 use Rattle.rabit_frame.specs.Carrying.{LeavesByStatus}
-use Rattle.rabit_replies.specs.Printed.{upgrade_done_text}
-use Rattle.rabit_replies.specs.Files.{certificate_file, ReadsCertificate, certificate_put}
+use Rattle.rabit_frame.specs.Printed.{upgrade_done_text}
+use Rattle.rabit_frame.specs.FileKinds.{certificate_file, ReadsCertificate, certificate_put}
 
 -- The file that it reads: the certificate.
 abbrev pub upgrade_inputs : List ℕ → List Input

@@ -10,7 +10,6 @@ ghost use Rattle.rabit_cli.specs.Include.{usual_terms, LeavesDecided};
 ghost use Rattle.rabit_cli.specs.Batch.{question_request, IsQuestionStatus, ShowsQuestion, AnswersQuestion, unsaid, IsAskedOf, question_line, AreQuestions, IsCarriedEach, list_file, IsBatch};
 
 use crate::including;
-use crate::including::AskedInclude;
 use auto_core::{List, Memory, Mode};
 use equal_batch::Question;
 use rabit_frame::{Ending, FileKind, Reply, Slot, Value, Work, read_alone, say};
@@ -48,13 +47,8 @@ impl<'a> Work for Asking<'a> {
     }
 
     fn answer(&self, alloc: Global, values: &[Value]) -> Result<Reply<'_>, Memory> {
-        let asked = AskedInclude {
-            mode: Mode::Buchi,
-            look: USUAL_LOOK,
-            limit: USUAL_LIMIT,
-            letters: None,
-        };
-        including::reply(alloc, name_of(self.question.cert.as_slice()), asked, values)
+        let terms = including::terms_named(Mode::Buchi, USUAL_LOOK, USUAL_LIMIT, None);
+        including::reply(alloc, name_of(self.question.cert.as_slice()), terms, values)
     }
 }
 

@@ -6,18 +6,17 @@ ghost use Rattle.ba_format.specs.Reading.{IsWithinLimits};
 ghost use Rattle.ba_format.specs.Joining.{IsJoined};
 ghost use Rattle.cert_value.specs.WellFormed.{WellFormed};
 ghost use Rattle.rabit_frame.specs.Reading.{AreOfKinds};
-ghost use Rattle.rabit_replies.specs.declared.files.TheConstants.{FIRST_LIMITS, SECOND_LIMITS};
-ghost use Rattle.rabit_replies.specs.Files.{HasLabelTexts};
+ghost use Rattle.rabit_frame.specs.declared.files.TheConstants.{FIRST_LIMITS, SECOND_LIMITS};
+ghost use Rattle.rabit_frame.specs.FileKinds.{HasLabelTexts};
 ghost use Rattle.rabit_cli.specs.Check.{check_inputs, Concludes, MeansCheck};
 
 use auto_core::{List, Memory};
 use ba_format::{Joined, Named};
 use cert_check::CheckFault;
 use cert_text::Cert;
-use rabit_frame::{Reply, Slot, Value};
-use rabit_replies::{
-    certificate, certificate_slot, first_automaton, first_slot, refused, second_automaton,
-    second_slot, verdict,
+use rabit_frame::{
+    Reply, Slot, Value, certificate, certificate_slot, first_automaton, first_slot, refused,
+    second_automaton, second_slot, verdict,
 };
 use std::alloc::Global;
 

@@ -6,15 +6,13 @@ ghost use Rattle.rabit_words.specs.declared.parts.Question.{Question as AQuestio
 ghost use Rattle.rabit_words.specs.Question.{Batch, told, IsProper};
 ghost use Rattle.rabit_cli.specs.Commands.{asked_by, IsSingle, inputs_of, outputs_of, Means, request_of};
 
-use crate::including::AskedInclude;
 use crate::{
     checking, cross_checking, crossing, drilling, emptiness, equality, including, intersecting,
     properties, reducing, shrinking, uniting, universality, upgrading,
 };
 use auto_core::{List, Memory};
 use drawing::Drill;
-use rabit_frame::{Reply, Slot, Value, Work};
-use rabit_replies::{FIRST_LIMITS, SECOND_LIMITS};
+use rabit_frame::{FIRST_LIMITS, Reply, SECOND_LIMITS, Slot, Value, Work};
 use rabit_words::Question;
 use reduce_loop::Foresight;
 use std::alloc::Global;
@@ -99,13 +97,8 @@ fn writing_reply<'a>(
             letters,
             ..
         } => {
-            let asked = AskedInclude {
-                mode: *mode,
-                look: *look,
-                limit: *limit,
-                letters: *letters,
-            };
-            return including::reply(alloc, certificate.as_str(), asked, values);
+            let terms = including::terms_named(*mode, *look, *limit, *letters);
+            return including::reply(alloc, certificate.as_str(), terms, values);
         },
         Question::Upgrade { upgraded, .. } => {
             return upgrading::reply(alloc, upgraded.as_str(), values);
@@ -245,7 +238,7 @@ impl<'a> Work for Command<'a> {
                 return reply_to(alloc, question, values);
             },
             Ok(None) => {
-                return rabit_replies::usage(alloc);
+                return rabit_frame::usage(alloc);
             },
             Err(_refused) => {
                 return Err(Memory);

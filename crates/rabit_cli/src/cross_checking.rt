@@ -4,12 +4,12 @@ ghost use Rattle.std.specs.Prelude.{◌≡◌, ℕ, List as Items, IfOk};
 ghost use Rattle.ba_format.specs.declared.parts.Joined.{Joined as AJoined};
 ghost use Rattle.ba_format.specs.Reading.{IsWithinLimits};
 ghost use Rattle.ba_format.specs.Joining.{IsJoined};
-ghost use Rattle.cross_text.specs.Text.{CrossFormed};
+ghost use Rattle.cert_text.specs.CrossText.{CrossFormed};
 ghost use Rattle.decide.specs.Laws.{CanDecide};
 ghost use Rattle.rabit_frame.specs.declared.parts.FileKind.TheVariants as kind;
 ghost use Rattle.rabit_frame.specs.Reading.{AreOfKinds, IsOfKind, only_said};
-ghost use Rattle.rabit_replies.specs.declared.files.TheConstants.{FIRST_LIMITS, SECOND_LIMITS};
-ghost use Rattle.rabit_replies.specs.Printed.{by_simulation_text};
+ghost use Rattle.rabit_frame.specs.declared.files.TheConstants.{FIRST_LIMITS, SECOND_LIMITS};
+ghost use Rattle.rabit_frame.specs.Printed.{by_simulation_text};
 ghost use Rattle.rabit_cli.specs.Cross.{cross_file, cross_check_inputs, ConcludesCross, MeansCrossCheck};
 
 use crate::joining::joined;
@@ -17,8 +17,10 @@ use auto_core::{List, Memory};
 use ba_format::{Joined, Named};
 use cert_check::Refusal;
 use cross_sim::{CheckCrossFault, Cross, check_cross};
-use rabit_frame::{FileKind, Reply, Slot, Status, Value, line};
-use rabit_replies::{first_automaton, first_slot, second_automaton, second_slot};
+use rabit_frame::{
+    FileKind, Reply, Slot, Status, Value, first_automaton, first_slot, line, second_automaton,
+    second_slot,
+};
 use std::alloc::Global;
 
 /// A cross relation's file.
@@ -81,7 +83,7 @@ fn concluded<'a>(alloc: Global, pair: &Joined, cross: &Cross) -> Result<Reply<'a
                 rule: refusal.rule,
                 item: refusal.item,
             };
-            rabit_replies::refused(alloc, broken)
+            rabit_frame::refused(alloc, broken)
         },
         Err(CheckCrossFault::Memory) => Err(Memory),
     }

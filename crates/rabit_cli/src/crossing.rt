@@ -7,9 +7,9 @@ ghost use Rattle.ba_format.specs.Joining.{IsJoined};
 ghost use Rattle.decide.specs.Laws.{CanDecide};
 ghost use Rattle.cross_sim.specs.Written.{IsCrossOfGreatest};
 ghost use Rattle.rabit_frame.specs.Reading.{AreOfKinds, only_said, reply_with};
-ghost use Rattle.rabit_replies.specs.declared.files.TheConstants.{FIRST_LIMITS, SECOND_LIMITS};
-ghost use Rattle.rabit_replies.specs.Files.{pair_inputs};
-ghost use Rattle.rabit_replies.specs.Printed.{by_simulation_text, no_relation_text};
+ghost use Rattle.rabit_frame.specs.declared.files.TheConstants.{FIRST_LIMITS, SECOND_LIMITS};
+ghost use Rattle.rabit_frame.specs.FileKinds.{pair_inputs};
+ghost use Rattle.rabit_frame.specs.Printed.{by_simulation_text, no_relation_text};
 ghost use Rattle.rabit_cli.specs.Cross.{cross_put, IsCrossReply, MeansCross};
 
 use crate::joining::joined;

@@ -12,10 +12,10 @@ ghost use Rattle.decide.specs.Answer.{IsAnswer};
 ghost use Rattle.equal_batch.specs.declared.outcome.Both.{Both as ABoth};
 ghost use Rattle.equal_batch.specs.Equality.{said_by_both};
 ghost use Rattle.rabit_frame.specs.Reading.{AreOfKinds};
-ghost use Rattle.rabit_replies.specs.Printed.{witness_lines, first_apart_text, second_apart_text};
+ghost use Rattle.rabit_frame.specs.Printed.{witness_lines, first_apart_text, second_apart_text};
 ghost use Rattle.rabit_cli.specs.Include.{usual_terms};
-ghost use Rattle.rabit_replies.specs.Files.{certificate_put};
-ghost use Rattle.rabit_replies.specs.Replies.{HasLettersOf, IsNo};
+ghost use Rattle.rabit_frame.specs.FileKinds.{certificate_put};
+ghost use Rattle.rabit_frame.specs.Replies.{HasLettersOf, IsNo};
 ghost use Rattle.rabit_cli.specs.Equal.{equal_inputs, first_apart_reply, both_reply, both_puts, IsBothReply, IsEqualReply, MeansEqual};
 
 use crate::including::put_of;
@@ -24,9 +24,9 @@ use auto_core::{List, Memory, Mode, append};
 use ba_format::{Joined, Named, Texts};
 use cert_text::{Body, Cert};
 use equal_batch::{Both, both};
-use rabit_frame::{Put, Reply, Slot, Status, Value, line};
-use rabit_replies::{
-    SECOND_LIMITS, automaton_slot, limit_met, push_lasso, push_word_line, reply_with,
+use rabit_frame::{
+    Put, Reply, SECOND_LIMITS, Slot, Status, Value, automaton_slot, limit_met, line, push_lasso,
+    push_word_line, reply_with,
 };
 use rabit_words::{USUAL_LIMIT, USUAL_LOOK};
 use std::alloc::Global;

@@ -4,8 +4,8 @@ ghost use Rattle.std.specs.Prelude.{IfOk};
 ghost use Rattle.ba_format.specs.Reading.{IsWithinLimits};
 ghost use Rattle.ba_format.specs.Joining.{IsJoined};
 ghost use Rattle.decide.specs.Laws.{CanDecide};
-ghost use Rattle.rabit_replies.specs.declared.files.TheConstants.{SECOND_LIMITS, FIRST_LIMITS};
-ghost use Rattle.rabit_replies.specs.Files.{HasLabelTexts};
+ghost use Rattle.rabit_frame.specs.declared.files.TheConstants.{SECOND_LIMITS, FIRST_LIMITS};
+ghost use Rattle.rabit_frame.specs.FileKinds.{HasLabelTexts};
 
 use auto_core::Memory;
 use ba_format::{Joined, Named};

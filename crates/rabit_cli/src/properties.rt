@@ -6,18 +6,18 @@ ghost use Rattle.ba_format.specs.Faults.{fault_of};
 ghost use Rattle.ba_format.specs.Reading.{Reads, IsWithinLimits};
 ghost use Rattle.decide.specs.Laws.{CanDecide};
 ghost use Rattle.rabit_frame.specs.Lines.{line_end};
-ghost use Rattle.rabit_replies.specs.Printed.{lasso_lines, word_line, holds_text, lasso_against_text, word_against_text};
-ghost use Rattle.rabit_replies.specs.Replies.{HasLettersOf};
-ghost use Rattle.rabit_replies.specs.Files.{automaton_file};
+ghost use Rattle.rabit_frame.specs.Printed.{lasso_lines, word_line, holds_text, lasso_against_text, word_against_text};
+ghost use Rattle.rabit_frame.specs.Replies.{HasLettersOf};
+ghost use Rattle.rabit_frame.specs.FileKinds.{automaton_file};
 ghost use Rattle.rabit_cli.specs.Property.{property_puts, IsPropertyReply, IsPropertyDecided};
 
 use crate::including::put_of;
 use auto_core::{Lasso, List, Memory, Mode, Word, append};
 use ba_format::{Joined, Limits, Named, ReadFault, Texts};
 use cert_text::{Body, Cert};
-use rabit_frame::{Put, Reply, Slot, Status};
-use rabit_replies::{
-    SECOND_LIMITS, automaton_slot, limit_met, push_lasso, push_word_line, reply_with,
+use rabit_frame::{
+    Put, Reply, SECOND_LIMITS, Slot, Status, automaton_slot, limit_met, push_lasso, push_word_line,
+    reply_with,
 };
 use rabit_words::{USUAL_LIMIT, USUAL_LOOK};
 use std::alloc::Global;

@@ -3,13 +3,12 @@
 ghost use Rattle.std.specs.Prelude.{◌≡◌, ◌≤◌, ℕ, List as Items, IfOk};
 ghost use Rattle.ba_format.specs.Reading.{IsWithinLimits};
 ghost use Rattle.rabit_frame.specs.Reading.{AreOfKinds};
-ghost use Rattle.rabit_replies.specs.declared.files.TheConstants.{FIRST_LIMITS};
+ghost use Rattle.rabit_frame.specs.declared.files.TheConstants.{FIRST_LIMITS};
 ghost use Rattle.rabit_cli.specs.Reduce.{reduce_inputs, IsReducedText, MeansReduce};
 
 use auto_core::{List, Memory, Mode};
 use ba_format::Named;
-use rabit_frame::{Reply, Slot, Status, Value};
-use rabit_replies::first_slot;
+use rabit_frame::{Reply, Slot, Status, Value, first_slot};
 use reduce_loop::Foresight;
 use std::alloc::Global;
 

@@ -7,9 +7,9 @@ ghost use Rattle.ba_format.specs.Joining.{IsJoined};
 ghost use Rattle.cert_value.specs.WellFormed.{WellFormed};
 ghost use Rattle.cert_check.specs.Rules.{KeepsRules};
 ghost use Rattle.rabit_frame.specs.Reading.{AreOfKinds};
-ghost use Rattle.rabit_replies.specs.declared.files.TheConstants.{SECOND_LIMITS, FIRST_LIMITS};
-ghost use Rattle.rabit_replies.specs.Files.{HasLabelTexts};
-ghost use Rattle.rabit_replies.specs.Replies.{nothing_to_shrink_reply, IsNo};
+ghost use Rattle.rabit_frame.specs.declared.files.TheConstants.{SECOND_LIMITS, FIRST_LIMITS};
+ghost use Rattle.rabit_frame.specs.FileKinds.{HasLabelTexts};
+ghost use Rattle.rabit_frame.specs.Replies.{nothing_to_shrink_reply, IsNo};
 ghost use Rattle.rabit_cli.specs.Check.{check_inputs};
 ghost use Rattle.rabit_cli.specs.Shrink.{IsShrunkBody, IsShrinkReply, MeansShrink};
 
@@ -19,8 +19,7 @@ use ba_format::{Joined, Named};
 use cert_check::CheckFault;
 use cert_text::{Body, Cert};
 use lasso_shrink::{shrink, shrink_word};
-use rabit_frame::{Reply, Status, Value, line};
-use rabit_replies::{certificate, first_automaton, second_automaton};
+use rabit_frame::{Reply, Status, Value, certificate, first_automaton, line, second_automaton};
 use std::alloc::Global;
 
 /// The certificate is valid, and has neither a lasso nor a word.
@@ -84,7 +83,7 @@ fn checked<'a>(
 {
     match cert_check::check(alloc, pair, cert) {
         Ok(_verdict) => shrunk(alloc, name, pair, cert),
-        Err(CheckFault::Refused(refusal)) => rabit_replies::refused(alloc, refusal),
+        Err(CheckFault::Refused(refusal)) => rabit_frame::refused(alloc, refusal),
         Err(CheckFault::Memory) => Err(Memory),
     }
 }

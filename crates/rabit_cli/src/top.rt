@@ -2,7 +2,7 @@
 
 ghost use Rattle.shelf_io.specs.Seen.{call};
 ghost use Rattle.rabit_frame.specs.Carrying.{IsCarriedOut, TellsFaults, MakesCalls, SaysUsage};
-ghost use Rattle.rabit_replies.specs.Printed.{usage_text};
+ghost use Rattle.rabit_frame.specs.Printed.{usage_text};
 ghost use Rattle.rabit_cli.specs.Batch.{IsBatch};
 ghost use Rattle.rabit_cli.specs.Complete.{AnswersWhatReads};
 ghost use Rattle.rabit_cli.specs.Commands.{asked_by, IfSingle, IfBatch, Shows, LeavesFiles};

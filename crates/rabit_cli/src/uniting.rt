@@ -5,15 +5,14 @@ ghost use Rattle.ba_format.specs.declared.parts.Joined.{Joined as AJoined};
 ghost use Rattle.ba_format.specs.Reading.{IsWithinLimits};
 ghost use Rattle.ba_format.specs.Joining.{IsJoined};
 ghost use Rattle.rabit_frame.specs.Reading.{AreOfKinds};
-ghost use Rattle.rabit_replies.specs.declared.files.TheConstants.{SECOND_LIMITS, FIRST_LIMITS};
-ghost use Rattle.rabit_replies.specs.Files.{HasLabelTexts, pair_inputs};
+ghost use Rattle.rabit_frame.specs.declared.files.TheConstants.{SECOND_LIMITS, FIRST_LIMITS};
+ghost use Rattle.rabit_frame.specs.FileKinds.{HasLabelTexts, pair_inputs};
 ghost use Rattle.rabit_cli.specs.Union.{IsUnionReply, MeansUnion};
 
 use auto_core::{Memory, Mode};
 use auto_ops::OpFault;
 use ba_format::{Joined, Named};
-use rabit_frame::{Reply, Value};
-use rabit_replies::{printed, too_large};
+use rabit_frame::{Reply, Value, printed, too_large};
 use std::alloc::Global;
 
 /// The reply to the joined automata: their union is printed, unless it is too large.

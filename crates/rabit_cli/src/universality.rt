@@ -4,7 +4,7 @@ ghost use Rattle.std.specs.Prelude.{◌≡◌, ◌≤◌, ℕ, List as Items, le
 ghost use Rattle.ba_format.specs.Reading.{IsWithinLimits};
 ghost use Rattle.ba_format.specs.Writing.{written};
 ghost use Rattle.rabit_frame.specs.Reading.{AreOfKinds, HasWritableLabels};
-ghost use Rattle.rabit_replies.specs.declared.files.TheConstants.{SECOND_LIMITS};
+ghost use Rattle.rabit_frame.specs.declared.files.TheConstants.{SECOND_LIMITS};
 ghost use Rattle.rabit_cli.specs.Property.{property_inputs, IsPropertyDecidedFor, MeansProperty};
 ghost use Rattle.rabit_cli.specs.Universal.{loops, all_loops, universality};
 

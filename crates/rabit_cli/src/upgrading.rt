@@ -7,8 +7,7 @@ ghost use Rattle.rabit_cli.specs.Upgrade.{upgrade_inputs, upgrade_reply, MeansUp
 
 use auto_core::{List, Memory};
 use cert_text::{Cert, write_upgraded};
-use rabit_frame::{Put, Reply, Slot, Status, Value, line};
-use rabit_replies::{certificate, certificate_slot};
+use rabit_frame::{Put, Reply, Slot, Status, Value, certificate, certificate_slot, line};
 use std::alloc::Global;
 
 /// The file that it reads.

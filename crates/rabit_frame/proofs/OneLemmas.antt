@@ -8,8 +8,8 @@ use Rattle.ba_format.specs.KindNames.{kind_name}
 use Rattle.cert_line.specs.KindNames.{text_kind_name}
 use Rattle.cert_text.specs.Grammar.{reading}
 use Rattle.cert_text.proofs.Theorem.{reading_text}
-use Rattle.cross_text.specs.Grammar.{cross_reading}
-use Rattle.cross_text.proofs.TextLemmas.{reading_text as reading_cross}
+use Rattle.cert_text.specs.CrossGrammar.{cross_reading}
+use Rattle.cert_text.proofs.CrossTextLemmas.{reading_text as reading_cross}
 use Rattle.equal_batch.proofs.ListLemmas.{list_is_one, list_has_no_bad_line}
 use Rattle.rabit_frame.specs.declared.parts.FileKind.{FileKind}
 use Rattle.rabit_frame.specs.declared.parts.FileKind.TheVariants as kind

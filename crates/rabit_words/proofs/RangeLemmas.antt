@@ -7,7 +7,7 @@ use Rattle.std.proofs.lemmas.Slice.Eq.{bytes_eq-Decides}
 use Rattle.clap.specs.Words.{Row, Kinds, first_of, fault_of, subcommand_of}
 use Rattle.rabit_words.specs.Number.{number_between, number_or, number_if_named}
 use Rattle.rabit_words.specs.Command.{rabit_app}
-use Rattle.rabit_words.specs.Question.{Question, Equal, Empty, Universal, mode_by, IsProper, look_in, limit_in, letters_in, letters_named_in, number_at, asks_include, asks_check, asks_reduce, asks_drill, asks_upgrade, asks_cross, asks_cross_check, asks_equal, asks_batch, asks_union, asks_intersect, asks_shrink, names_differ, NamesDiffer, asks_if_names_differ, asks_empty, asks_universal, asks_by, asks_found, asks_unless, has_help_word, question_of}
+use Rattle.rabit_words.specs.Question.{Question, Equal, Empty, Universal, mode_by, IsProper, look_in, limit_in, letters_in, letters_named_in, number_at, asks_include, asks_check, asks_reduce, asks_drill, asks_upgrade, asks_cross, asks_cross_check, asks_equal, asks_batch, asks_union, asks_intersect, asks_shrink, names_differ, NamesDiffer, asks_if_names_differ, asks_empty, asks_universal, asks_by_later, asks_by, asks_found, asks_unless, has_help_word, question_of}
 use Rattle.rabit_words.proofs.NumberLemmas.{number_in_range}
 
 and_then_gives : {X Y : Type 0} (P : Y → Type 0) (f : X → Option Y) (o : Option X) → ((x : X) → o ≡ Some x → IfSome (f x) P) → IfSome (option_and_then f o) P
@@ -176,6 +176,16 @@ module _ (rows : List Row) where
       and_then_gives IsProper _ (first_of (codes "CERT") rows) (λ c is_c.
       differing_range (λ a u c. Universal a u c (mode_by (first_of (codes "finite") rows))) (λ a u c apart. apart) a u c)))
 
+  later_range : (name : List ℕ) → IfSome (asks_by_later name rows) IsProper
+  later_range name =
+      choice_gives IsProper (bytes_eq name (codes "equal")) (asks_equal rows) _ equal_range
+      (choice_gives IsProper (bytes_eq name (codes "batch")) (asks_batch rows) _ batch_range
+      (choice_gives IsProper (bytes_eq name (codes "union")) (asks_union rows) _ union_range
+      (choice_gives IsProper (bytes_eq name (codes "intersect")) (asks_intersect rows) _ intersect_range
+      (choice_gives IsProper (bytes_eq name (codes "shrink")) (asks_shrink rows) _ shrink_range
+      (choice_gives IsProper (bytes_eq name (codes "empty")) (asks_empty rows) _ empty_range
+      (choice_gives IsProper (bytes_eq name (codes "universal")) (asks_universal rows) None universal_range tt))))))
+
   by_range : (name : List ℕ) → IfSome (asks_by name rows) IsProper
   by_range name =
       choice_gives IsProper (bytes_eq name (codes "include")) (asks_include rows) _ include_range
@@ -185,13 +195,7 @@ module _ (rows : List Row) where
       (choice_gives IsProper (bytes_eq name (codes "upgrade")) (asks_upgrade rows) _ upgrade_range
       (choice_gives IsProper (bytes_eq name (codes "cross")) (asks_cross rows) _ cross_range
       (choice_gives IsProper (bytes_eq name (codes "cross-check")) (asks_cross_check rows) _ cross_check_range
-      (choice_gives IsProper (bytes_eq name (codes "equal")) (asks_equal rows) _ equal_range
-      (choice_gives IsProper (bytes_eq name (codes "batch")) (asks_batch rows) _ batch_range
-      (choice_gives IsProper (bytes_eq name (codes "union")) (asks_union rows) _ union_range
-      (choice_gives IsProper (bytes_eq name (codes "intersect")) (asks_intersect rows) _ intersect_range
-      (choice_gives IsProper (bytes_eq name (codes "shrink")) (asks_shrink rows) _ shrink_range
-      (choice_gives IsProper (bytes_eq name (codes "empty")) (asks_empty rows) _ empty_range
-      (choice_gives IsProper (bytes_eq name (codes "universal")) (asks_universal rows) None universal_range tt)))))))))))))
+      (later_range name)))))))
 
 found_range : (found : Option (List ℕ × List Row)) → IfSome (asks_found found) IsProper
 found_range None = tt

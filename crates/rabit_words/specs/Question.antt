@@ -207,6 +207,17 @@ asks_universal rows =
     a u c)
     (first_of (codes "CERT") rows)) (first_of (codes "U") rows)) (first_of (codes "A") rows)
 
+-- What is asked by the subcommand of this name, if it is one of the last seven.
+abbrev pub asks_by_later : List ℕ → List Row → Option Question
+asks_by_later name rows =
+    if bytes_eq name (codes "equal") then asks_equal rows
+    else (if bytes_eq name (codes "batch") then asks_batch rows
+    else (if bytes_eq name (codes "union") then asks_union rows
+    else (if bytes_eq name (codes "intersect") then asks_intersect rows
+    else (if bytes_eq name (codes "shrink") then asks_shrink rows
+    else (if bytes_eq name (codes "empty") then asks_empty rows
+    else (if bytes_eq name (codes "universal") then asks_universal rows else None))))))
+
 -- What is asked by the subcommand of this name.
 abbrev pub asks_by : List ℕ → List Row → Option Question
 asks_by name rows =
@@ -217,13 +228,7 @@ asks_by name rows =
     else (if bytes_eq name (codes "upgrade") then asks_upgrade rows
     else (if bytes_eq name (codes "cross") then asks_cross rows
     else (if bytes_eq name (codes "cross-check") then asks_cross_check rows
-    else (if bytes_eq name (codes "equal") then asks_equal rows
-    else (if bytes_eq name (codes "batch") then asks_batch rows
-    else (if bytes_eq name (codes "union") then asks_union rows
-    else (if bytes_eq name (codes "intersect") then asks_intersect rows
-    else (if bytes_eq name (codes "shrink") then asks_shrink rows
-    else (if bytes_eq name (codes "empty") then asks_empty rows
-    else (if bytes_eq name (codes "universal") then asks_universal rows else None)))))))))))))
+    else asks_by_later name rows))))))
 
 -- The same of the subcommand that was found, if one was.
 abbrev pub asks_found : Option (List ℕ × List Row) → Option Question

@@ -4,7 +4,7 @@ ghost use Rattle.std.specs.Prelude.{◌≡◌, ◌∷◌, IfOk, IfSome, codes, m
 ghost use Rattle.std.specs.List.{list_any};
 ghost use Rattle.std.specs.String.{string_bytes};
 ghost use Rattle.clap.specs.Words.{first_of, found_of, rows_of, subcommand_rows_of};
-ghost use Rattle.rabit_words.specs.Question.{told, mode_by, look_in, limit_in, letters_in, letters_named_in, IsProper, number_at, asks_include, asks_check, asks_reduce, asks_drill, asks_upgrade, asks_cross, asks_cross_check, asks_equal, asks_batch, asks_union, asks_intersect, asks_shrink, names_differ, asks_empty, asks_universal, asks_by, asks_found, asks_on_line, is_help_option, starts_with_help, has_help_word, question_of};
+ghost use Rattle.rabit_words.specs.Question.{told, mode_by, look_in, limit_in, letters_in, letters_named_in, IsProper, number_at, asks_include, asks_check, asks_reduce, asks_drill, asks_upgrade, asks_cross, asks_cross_check, asks_equal, asks_batch, asks_union, asks_intersect, asks_shrink, names_differ, asks_empty, asks_universal, asks_by_later, asks_by, asks_found, asks_on_line, is_help_option, starts_with_help, has_help_word, question_of};
 
 use crate::command::rabit;
 use crate::number::{number_between, number_if_named, number_or};
@@ -53,6 +53,68 @@ fn named(alloc: Global, text: &str) -> Result<String, Memory>
     ensures { IfOk result (λ name. string_bytes name ≡ text.now) }
 {
     Ok(String::from_str(alloc, text)?)
+}
+
+/// Two names of their own, with these bytes.
+fn two_named(alloc: Global, first: &str, second: &str) -> Result<(String, String), Memory>
+    ensures { IfOk
+        result
+        (λ names. (string_bytes names.0 ≡ first.now) × (string_bytes names.1 ≡ second.now)) }
+{
+    let first = named(alloc, first)?;
+    match named(alloc, second) {
+        Ok(second) => Ok((first, second)),
+        Err(refused) => {
+            drop(first);
+            Err(refused)
+        }
+    }
+}
+
+/// Three names of their own, with these bytes.
+fn three_named(
+    alloc: Global,
+    first: &str,
+    second: &str,
+    third: &str,
+) -> Result<(String, String, String), Memory>
+    ensures { IfOk
+        result
+        (λ names. (string_bytes names.0 ≡ first.now) × (string_bytes names.1 ≡ second.now)
+        × (string_bytes names.2 ≡ third.now)) }
+{
+    let third = named(alloc, third)?;
+    match two_named(alloc, first, second) {
+        Ok((first, second)) => Ok((first, second, third)),
+        Err(refused) => {
+            drop(third);
+            Err(refused)
+        }
+    }
+}
+
+/// Four names of their own, with these bytes.
+fn four_named(
+    alloc: Global,
+    first: &str,
+    second: &str,
+    third: &str,
+    fourth: &str,
+) -> Result<(String, String, String, String), Memory>
+    ensures { IfOk
+        result
+        (λ names. (string_bytes names.0 ≡ first.now) × (string_bytes names.1 ≡ second.now)
+        × (string_bytes names.2 ≡ third.now) × (string_bytes names.3 ≡ fourth.now)) }
+{
+    let (third, fourth) = two_named(alloc, third, fourth)?;
+    match two_named(alloc, first, second) {
+        Ok((first, second)) => Ok((first, second, third, fourth)),
+        Err(refused) => {
+            drop(third);
+            drop(fourth);
+            Err(refused)
+        }
+    }
 }
 
 /// What stands for the lookahead of a reduction.
@@ -107,10 +169,11 @@ fn include_in(alloc: Global, found: &ArgMatches<'_>) -> Result<Option<Question>,
         return Ok(None);
     };
     let mode = mode_of(found);
+    let (first, second, certificate) = three_named(alloc, first, second, certificate)?;
     Ok(Some(Question::Include {
-        first: named(alloc, first)?,
-        second: named(alloc, second)?,
-        certificate: named(alloc, certificate)?,
+        first,
+        second,
+        certificate,
         mode,
         look,
         limit,
@@ -132,10 +195,11 @@ fn check_in(alloc: Global, found: &ArgMatches<'_>) -> Result<Option<Question>, M
     let Some(certificate) = word_of(found, "CERT") else {
         return Ok(None);
     };
+    let (first, second, certificate) = three_named(alloc, first, second, certificate)?;
     Ok(Some(Question::Check {
-        first: named(alloc, first)?,
-        second: named(alloc, second)?,
-        certificate: named(alloc, certificate)?,
+        first,
+        second,
+        certificate,
     }))
 }
 
@@ -193,9 +257,10 @@ fn upgrade_in(alloc: Global, found: &ArgMatches<'_>) -> Result<Option<Question>,
     let Some(upgraded) = word_of(found, "OUT") else {
         return Ok(None);
     };
+    let (certificate, upgraded) = two_named(alloc, certificate, upgraded)?;
     Ok(Some(Question::Upgrade {
-        certificate: named(alloc, certificate)?,
-        upgraded: named(alloc, upgraded)?,
+        certificate,
+        upgraded,
     }))
 }
 
@@ -216,10 +281,11 @@ fn cross_in(alloc: Global, found: &ArgMatches<'_>) -> Result<Option<Question>, M
     let Some(look) = look_of(found) else {
         return Ok(None);
     };
+    let (first, second, relation) = three_named(alloc, first, second, relation)?;
     Ok(Some(Question::Cross {
-        first: named(alloc, first)?,
-        second: named(alloc, second)?,
-        relation: named(alloc, relation)?,
+        first,
+        second,
+        relation,
         look,
     }))
 }
@@ -238,10 +304,11 @@ fn cross_check_in(alloc: Global, found: &ArgMatches<'_>) -> Result<Option<Questi
     let Some(relation) = word_of(found, "FILE") else {
         return Ok(None);
     };
+    let (first, second, relation) = three_named(alloc, first, second, relation)?;
     Ok(Some(Question::CrossCheck {
-        first: named(alloc, first)?,
-        second: named(alloc, second)?,
-        relation: named(alloc, relation)?,
+        first,
+        second,
+        relation,
     }))
 }
 
@@ -265,11 +332,18 @@ fn equal_in(alloc: Global, found: &ArgMatches<'_>) -> Result<Option<Question>, M
     if certificate == converse {
         return Ok(None);
     }
+    let (first, second, certificate, converse) = four_named(
+        alloc,
+        first,
+        second,
+        certificate,
+        converse,
+    )?;
     Ok(Some(Question::Equal {
-        first: named(alloc, first)?,
-        second: named(alloc, second)?,
-        certificate: named(alloc, certificate)?,
-        converse: named(alloc, converse)?,
+        first,
+        second,
+        certificate,
+        converse,
     }))
 }
 
@@ -298,9 +372,10 @@ fn union_in(alloc: Global, found: &ArgMatches<'_>) -> Result<Option<Question>, M
         return Ok(None);
     };
     let mode = mode_of(found);
+    let (first, second) = two_named(alloc, first, second)?;
     Ok(Some(Question::Union {
-        first: named(alloc, first)?,
-        second: named(alloc, second)?,
+        first,
+        second,
         mode,
     }))
 }
@@ -317,9 +392,10 @@ fn intersect_in(alloc: Global, found: &ArgMatches<'_>) -> Result<Option<Question
         return Ok(None);
     };
     let mode = mode_of(found);
+    let (first, second) = two_named(alloc, first, second)?;
     Ok(Some(Question::Intersect {
-        first: named(alloc, first)?,
-        second: named(alloc, second)?,
+        first,
+        second,
         mode,
     }))
 }
@@ -341,11 +417,18 @@ fn shrink_in(alloc: Global, found: &ArgMatches<'_>) -> Result<Option<Question>, 
     let Some(shorter) = word_of(found, "OUT") else {
         return Ok(None);
     };
+    let (first, second, certificate, shorter) = four_named(
+        alloc,
+        first,
+        second,
+        certificate,
+        shorter,
+    )?;
     Ok(Some(Question::Shrink {
-        first: named(alloc, first)?,
-        second: named(alloc, second)?,
-        certificate: named(alloc, certificate)?,
-        shorter: named(alloc, shorter)?,
+        first,
+        second,
+        certificate,
+        shorter,
     }))
 }
 
@@ -374,10 +457,11 @@ fn empty_in(alloc: Global, found: &ArgMatches<'_>) -> Result<Option<Question>, M
         return Ok(None);
     }
     let mode = mode_of(found);
+    let (automaton, made, certificate) = three_named(alloc, automaton, made, certificate)?;
     Ok(Some(Question::Empty {
-        automaton: named(alloc, automaton)?,
-        made: named(alloc, made)?,
-        certificate: named(alloc, certificate)?,
+        automaton,
+        made,
+        certificate,
         mode,
     }))
 }
@@ -400,12 +484,46 @@ fn universal_in(alloc: Global, found: &ArgMatches<'_>) -> Result<Option<Question
         return Ok(None);
     }
     let mode = mode_of(found);
+    let (automaton, made, certificate) = three_named(alloc, automaton, made, certificate)?;
     Ok(Some(Question::Universal {
-        automaton: named(alloc, automaton)?,
-        made: named(alloc, made)?,
-        certificate: named(alloc, certificate)?,
+        automaton,
+        made,
+        certificate,
         mode,
     }))
+}
+
+/// What is asked by the subcommand of this name, if it is one of the last seven.
+fn asked_by_later(
+    alloc: Global,
+    name: &str,
+    found: &ArgMatches<'_>,
+) -> Result<Option<Question>, Memory>
+    ensures { IfOk
+        result (λ asked. option_map told asked ≡ asks_by_later name.now (rows_of (found_of found.now))) }
+{
+    if name == "equal" {
+        return equal_in(alloc, found);
+    }
+    if name == "batch" {
+        return batch_in(alloc, found);
+    }
+    if name == "union" {
+        return union_in(alloc, found);
+    }
+    if name == "intersect" {
+        return intersect_in(alloc, found);
+    }
+    if name == "shrink" {
+        return shrink_in(alloc, found);
+    }
+    if name == "empty" {
+        return empty_in(alloc, found);
+    }
+    if name == "universal" {
+        return universal_in(alloc, found);
+    }
+    Ok(None)
 }
 
 /// What is asked by the subcommand of this name.
@@ -434,28 +552,7 @@ fn asked_by(alloc: Global, name: &str, found: &ArgMatches<'_>) -> Result<Option<
     if name == "cross-check" {
         return cross_check_in(alloc, found);
     }
-    if name == "equal" {
-        return equal_in(alloc, found);
-    }
-    if name == "batch" {
-        return batch_in(alloc, found);
-    }
-    if name == "union" {
-        return union_in(alloc, found);
-    }
-    if name == "intersect" {
-        return intersect_in(alloc, found);
-    }
-    if name == "shrink" {
-        return shrink_in(alloc, found);
-    }
-    if name == "empty" {
-        return empty_in(alloc, found);
-    }
-    if name == "universal" {
-        return universal_in(alloc, found);
-    }
-    Ok(None)
+    asked_by_later(alloc, name, found)
 }
 
 /// What is asked by the subcommand that the matches have, if they have one.

@@ -10,3 +10,7 @@ pub mod MakingLemmas
 pub mod CopyLemmas
 pub mod LoopLemmas
 pub mod LogLemmas
+pub mod MapLemmas
+pub mod SameLemmas
+pub mod StateLemmas
+pub mod TellLemmas

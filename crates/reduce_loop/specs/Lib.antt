@@ -5,3 +5,4 @@ pub mod Logs
 pub mod Known
 pub mod Size
 pub mod Laws
+pub mod Texts

@@ -93,7 +93,7 @@ pub(crate) fn backward(
 
 /// The greatest forward relation at lookahead 1, which is kept. It is sought inside the one at the
 /// lookahead of the reduction, which is kept too.
-fn forward_at_one(
+pub(crate) fn forward_at_one(
     alloc: Global,
     automaton: &Auto,
     kept: &mut Option<Rel>,

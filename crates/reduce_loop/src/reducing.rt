@@ -3,17 +3,18 @@
 ghost use Rattle.std.specs.Prelude.{◌≡◌, ◌<◌, ◌≤◌, ℕ, List, [], ◌∷◌, ◌++◌, true, length, Contains, IfOk};
 ghost use Rattle.auto_core.specs.Automaton.{IsAutomaton};
 ghost use Rattle.auto_core.specs.Accept.{Same};
+ghost use Rattle.auto_core.specs.Game.{IsGreatestForward};
 ghost use Rattle.reduce_loop.specs.Kinds.{After, kinds_of};
 ghost use Rattle.reduce_loop.specs.Known.{AreGreatestOn};
 ghost use Rattle.reduce_loop.specs.Passes.{AreIdle, IsReduced};
 ghost use Rattle.reduce_loop.specs.Settled.{IsSettled};
-ghost use Rattle.reduce_loop.specs.Logs.{IsLogged, LogsOn, IsLog};
+ghost use Rattle.reduce_loop.specs.Logs.{IsLogged, LogsOn, IsLog, IsRelationOf};
 ghost use Rattle.reduce_loop.specs.declared.steps.Step.{Step};
 
 use crate::copying::{copied, is_same_automaton};
-use crate::knowing::nothing_known;
+use crate::knowing::{forward_at_one, nothing_known};
 use crate::making::make;
-use crate::steps::{Foresight, Going, Kind, Reduced, Step};
+use crate::steps::{Foresight, Going, Kind, Ordered, Reduced, Step};
 use auto_core::{Auto, List, Memory, Mode};
 use std::alloc::Global;
 
@@ -152,9 +153,32 @@ fn finished(state: Going) -> Reduced
     }
 }
 
-/// The reduced automaton: the steps are taken in order, each by the greatest relations of the
-/// automaton as it is then, in passes until a pass changes nothing. The log has the steps that
-/// changed something.
+/// The automaton once it is settled: the steps are taken in order, each by the greatest relations
+/// of the automaton as it is then, in passes until a pass changes nothing. The log has the steps
+/// that changed something.
+fn settled(alloc: Global, automaton: &Auto, mode: Mode, sight: Foresight) -> Result<Going, Memory>
+    requires few { automaton.now.states ≤ 65535 }
+    requires look_from { 1 ≤ sight.look }
+    requires look_upto { sight.look ≤ 6 }
+    requires letters_from { 1 ≤ sight.letters }
+    requires letters_upto { sight.letters ≤ 4 }
+    ensures reduced { IfOk result (λ r. IsReduced automaton.now mode sight r.auto) }
+    ensures log { IfOk result (λ r. IsLog automaton.now mode sight r.auto r.log) }
+    ensures same { IfOk result (λ r. Same automaton.now r.auto mode) }
+    ensures settled { IfOk result (λ r. IsSettled r.auto mode sight) }
+    ensures known { IfOk result (λ r. AreGreatestOn r.auto sight.look r.known) }
+{
+    let mut state = going(alloc, copied(alloc, automaton)?, List::new(alloc));
+    loop {
+        let before = state.log.as_slice().len();
+        state = pass(alloc, state, mode, sight)?;
+        if state.log.as_slice().len() == before {
+            return Ok(state);
+        }
+    }
+}
+
+/// The reduced automaton, and the steps that changed something.
 fn reduce_by(
     alloc: Global,
     automaton: &Auto,
@@ -171,14 +195,42 @@ fn reduce_by(
     ensures same { IfOk result (λ r. Same automaton.now r.auto mode) }
     ensures settled { IfOk result (λ r. IsSettled r.auto mode sight) }
 {
-    let mut state = going(alloc, copied(alloc, automaton)?, List::new(alloc));
-    loop {
-        let before = state.log.as_slice().len();
-        state = pass(alloc, state, mode, sight)?;
-        if state.log.as_slice().len() == before {
-            return Ok(finished(state));
-        }
-    }
+    let state = settled(alloc, automaton, mode, sight)?;
+    Ok(finished(state))
+}
+
+/// The reduced automaton with its order, and the steps that changed something.
+pub fn reduce_ordered(
+    alloc: Global,
+    automaton: &Auto,
+    mode: Mode,
+    sight: Foresight,
+) -> Result<Ordered, Memory>
+    requires few { automaton.now.states ≤ 65535 }
+    requires look_from { 1 ≤ sight.look }
+    requires look_upto { sight.look ≤ 6 }
+    requires letters_from { 1 ≤ sight.letters }
+    requires letters_upto { sight.letters ≤ 4 }
+    ensures reduced { IfOk result (λ r. IsReduced automaton.now mode sight r.auto) }
+    ensures log { IfOk result (λ r. IsLog automaton.now mode sight r.auto r.log) }
+    ensures same { IfOk result (λ r. Same automaton.now r.auto mode) }
+    ensures settled { IfOk result (λ r. IsSettled r.auto mode sight) }
+    ensures order { IfOk result (λ r. IsRelationOf r.auto (IsGreatestForward r.auto 1) r.order) }
+{
+    let state = settled(alloc, automaton, mode, sight)?;
+    let mut known = state.known;
+    let order = forward_at_one(
+        alloc,
+        &state.auto,
+        &mut known.forward_at_one,
+        &mut known.forward,
+        sight.look,
+    )?;
+    Ok(Ordered {
+        auto: state.auto,
+        log: state.log,
+        order,
+    })
 }
 
 /// The reduced automaton, with lookahead `look` in the forward and backward games and one announced

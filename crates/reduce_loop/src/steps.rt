@@ -99,6 +99,17 @@ pub struct Reduced {
     pub log: List<Step>,
 }
 
+/// An automaton that was reduced, with its order.
+#[derive(Debug, Drop)]
+pub struct Ordered {
+    /// What it became.
+    pub auto: Auto,
+    /// The steps that changed something, in order.
+    pub log: List<Step>,
+    /// The greatest forward relation at lookahead 1 of what it became.
+    pub order: Rel,
+}
+
 /// An automaton on its way through the steps.
 #[derive(Debug, Drop)]
 pub(crate) struct Going {

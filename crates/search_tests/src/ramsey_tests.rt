@@ -2,14 +2,14 @@
 
 ghost use Rattle.std.specs.Prelude.{◌≡◌, ◌≤◌, ◌<◌, length, IfOk};
 ghost use Rattle.ba_format.specs.Reading.{IsWithinLimits};
-ghost use Rattle.rabit_replies.specs.Files.{HasLabelTexts};
+ghost use Rattle.rabit_frame.specs.FileKinds.{HasLabelTexts};
 
 use auto_core::{Memory, Origin};
 use ba_format::{Joined, Limits, Named, join, read};
 use cert_text::{Element, Mark, StepLine};
 use graph_pool::Pool;
 use graph_rows::words_of;
-use rabit_replies::{FIRST_LIMITS, SECOND_LIMITS};
+use rabit_frame::{FIRST_LIMITS, SECOND_LIMITS};
 use ramsey_search::{Outcome, search, search_in};
 use std::alloc::Global;
 use std::test::Fail;

@@ -8,7 +8,7 @@ ghost use Rattle.set_rows.specs.Sets.{IsRow, IsSubset, IsBelow, IsCovered};
 
 use auto_core::{Auto, rows};
 use bit_rel::Rel;
-use row_steps::meets;
+use bit_rows::meets;
 
 /// Writes the states that the order relates to some member of the row's set. Another set is a
 /// subset of what is written just where the order relates each of its members to a member of the

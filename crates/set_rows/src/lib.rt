@@ -5,7 +5,7 @@ mod comparing;
 mod moving;
 mod reaching;
 
+pub use bit_rows::subset;
 pub use comparing::{covers, has_accepting, write_below};
 pub use moving::{write_after, write_one};
 pub use reaching::reached;
-pub use row_steps::subset;

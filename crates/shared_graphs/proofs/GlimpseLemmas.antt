@@ -10,7 +10,7 @@ use Rattle.auto_core.specs.Outcome.{At}
 use Rattle.auto_core.specs.Rows.{HasBit}
 use Rattle.auto_core.proofs.BitLemmas.{bit_past}
 use Rattle.graph_rows.specs.Block.{IsFormed, block_graph}
-use Rattle.search_laws.proofs.PlaceLemmas.{at_cases}
+use Rattle.auto_laws.proofs.PlaceLemmas.{at_cases}
 use Rattle.lasso_test.proofs.LoopLemmas.{blocks_enter}
 use Rattle.shared_graphs.specs.declared.glimpses.Glimpse.{Glimpse}
 use Rattle.shared_graphs.specs.Graphs.{block_at}

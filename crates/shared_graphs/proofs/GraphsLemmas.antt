@@ -20,7 +20,7 @@ use Rattle.shared_graphs.specs.declared.coverings.Coverings.{Coverings}
 use Rattle.shared_graphs.specs.declared.graph_pairs.GraphPairs.{GraphPairs}
 use Rattle.shared_graphs.specs.Memo.{AllTold, NothingTold, HasAnswer, TellsNothingNew, HasNoted}
 use Rattle.shared_graphs.specs.GraphBlocks.{SamePool}
-use Rattle.graph_laws.proofs.GraphLemmas.{covers_between, same_refl}
+use Rattle.auto_laws.proofs.GraphLemmas.{covers_between, same_refl}
 use Rattle.shared_graphs.specs.Graphs.{block_at, AsTheyAre, IsBlockOf, IsMinimised, IsStock, IsThere, HasGrown, IsGraphOf, HasAddedGraph, HasNumber, FitsLetter, FitsStep, Keeping, MinimisedBy, StandsFor, kept_under}
 use Rattle.shared_graphs.specs.GraphPairs.{FitsCovering, ArePrints, AreCoverings, AreGraphPairs}
 use Rattle.shared_graphs.specs.declared.glimpses.Glimpse.{Glimpse}

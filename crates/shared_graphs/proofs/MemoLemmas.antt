@@ -2,7 +2,7 @@
 use Rattle.std.proofs.Common.{◌≡◌, ℕ, List, [], ◌∷◌, ◌++◌, Option, None, subst, inl, inr, arith}
 use Rattle.std.specs.Prelude.{Some}
 use Rattle.auto_core.specs.Outcome.{At}
-use Rattle.search_laws.proofs.PlaceLemmas.{at_cases, at_within}
+use Rattle.auto_laws.proofs.PlaceLemmas.{at_cases, at_within}
 use Rattle.shared_graphs.specs.declared.memo.Noted.{Noted}
 use Rattle.shared_graphs.specs.Memo.{NothingTold, TellsNothingNew, HasNoted}
 

@@ -7,7 +7,7 @@ use Rattle.graph_rows.specs.declared.prints.PairBits.{PairBits}
 use Rattle.graph_rows.specs.declared.prints.Print.{Print}
 use Rattle.graph_rows.specs.Block.{block_graph}
 use Rattle.graph_rows.specs.Prints.{AreBitsOf, IsFolded, IsPicked, IsPrint, Misses, MissesAt, joined_pairs}
-use Rattle.search_laws.proofs.PlaceLemmas.{at_cases}
+use Rattle.auto_laws.proofs.PlaceLemmas.{at_cases}
 use Rattle.shared_graphs.specs.Graphs.{block_at}
 use Rattle.shared_graphs.specs.GraphPairs.{ArePrints}
 

@@ -2,7 +2,7 @@
 use Rattle.std.proofs.Common.{◌≡◌, ℕ, ◌+◌, ◌<◌, ◌≤◌, ◌⊎◌, inl, inr, List, length, sym, ap, ◌∙◌, subst, arith}
 use Rattle.std.proofs.lemmas.Bool.{cases_eq, cases_lt}
 use Rattle.auto_core.specs.Game.{Close}
-use Rattle.path_laws.proofs.GameLemmas.{close_refl}
+use Rattle.auto_laws.proofs.GameLemmas.{close_refl}
 use Rattle.strong_components.specs.Graph.{at, HasArc}
 use Rattle.strong_components.specs.UnderWay.{none, State, Behind, IsDone, IsOpen, IsNew, IsTaken, LeadsOn, IsPlaced, IsUnderWay}
 use Rattle.strong_components.proofs.StateLemmas.{IsPushed, IsCut, IsSet, pushed_rises, cut_rises, one_place, place_of_node}

@@ -2,7 +2,7 @@
 use Rattle.std.proofs.Common.{◌≡◌, ℕ, ◌-◌, ◌<◌, ◌≤◌, inl, inr, List, [], ◌∷◌, ◌++◌, length, take, slice_set, refl, sym, ap, ◌∙◌, subst, arith, le_refl}
 use Rattle.std.proofs.lemmas.Bool.{cases_eq}
 use Rattle.auto_core.specs.Game.{Close}
-use Rattle.path_laws.proofs.GameLemmas.{close_trans, close_one}
+use Rattle.auto_laws.proofs.GameLemmas.{close_trans, close_one}
 use Rattle.strong_components.specs.Graph.{at, HasArc}
 use Rattle.strong_components.specs.UnderWay.{none, State, IsDone, IsOpen, IsNew, IsUnderWay}
 use Rattle.strong_components.specs.Steps.{CanGo, Begins, Went}

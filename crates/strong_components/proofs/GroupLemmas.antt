@@ -2,7 +2,7 @@
 use Rattle.std.proofs.Common.{◌≡◌, ℕ, ◌<◌, ◌≤◌, inl, inr, List, length, ap, ◌∙◌, arith}
 use Rattle.std.proofs.lemmas.Bool.{cases_eq, cases_lt}
 use Rattle.auto_core.specs.Game.{Close}
-use Rattle.path_laws.proofs.GameLemmas.{close_trans}
+use Rattle.auto_laws.proofs.GameLemmas.{close_trans}
 use Rattle.strong_components.specs.Graph.{at, HasArc}
 use Rattle.strong_components.specs.UnderWay.{State, Behind, IsTaken, LeadsOn, IsUnderWay}
 use Rattle.strong_components.proofs.StateLemmas.{IsCut, cut_rises}

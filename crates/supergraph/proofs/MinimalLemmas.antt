@@ -5,7 +5,7 @@ use Rattle.std.proofs.lemmas.Bool.{cases_eq, cases_lt, false≢true}
 use Rattle.auto_core.specs.Rows.{HasBit, HasCell, bit_of, cell_of}
 use Rattle.auto_core.specs.Reach.{HasArc, IsTable}
 use Rattle.auto_core.specs.Graph.{Graph, IsGraph, SameGraph, graph_of_tables}
-use Rattle.graph_laws.proofs.GraphLemmas.{covers_trans, same_refl}
+use Rattle.auto_laws.proofs.GraphLemmas.{covers_trans, same_refl}
 use Rattle.graph_rows.specs.Added.{HasAdded}
 use Rattle.graph_rows.specs.Block.{IsFormed, block_graph, joined_plane, past_plane, width_of}
 use Rattle.graph_rows.proofs.RowsLemmas.{formed_of_planes}

@@ -12,8 +12,8 @@ ghost use Rattle.supergraph.specs.Minimal.{CoverEachOther, IsDominated, IsLessen
 
 use auto_core::rows;
 use bit_rel::Rel;
+use bit_rows::{has_no_other, next_bit};
 use graph_rows::{answers, targets_in};
-use row_steps::{has_no_other, next_bit};
 
 /// Takes the arc to the target out of the row of both tables.
 fn take_out(width: usize, row: u32, target: u32, joined: &mut [u64], past: &mut [u64])

@@ -1,3 +1,6 @@
 pub mod KeepLaws
-pub mod SearchLemmas
 pub mod PartLemmas
+pub mod GatherLemmas
+pub mod RunLemmas
+pub mod CycleLemmas
+pub mod UsefulLemmas

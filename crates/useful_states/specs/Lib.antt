@@ -1,3 +1,5 @@
 pub mod Laws
-pub mod Search
 pub mod KeptParts
+pub mod Gathering
+pub mod Cycles
+pub mod Goals

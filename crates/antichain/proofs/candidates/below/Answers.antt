@@ -1,7 +1,7 @@
 use Rattle.std.proofs.Common.{◌≡◌, ℕ, ◌+◌, ◌/◌, ◌↔◌, List, length, drop, sym, ap, ◌∙◌, subst}
 use Rattle.auto_core.specs.Game.{Holds}
 use Rattle.set_rows.specs.Sets.{IsSubset, IsCovered}
-use Rattle.search_laws.proofs.PlaceLemmas.{take_front}
+use Rattle.auto_laws.proofs.PlaceLemmas.{take_front}
 use Rattle.antichain.proofs.candidates.below.Goals as goal
 
 pub returns-clause-covering : goal.returns-clause-covering

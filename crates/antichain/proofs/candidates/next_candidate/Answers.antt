@@ -6,7 +6,7 @@ use Rattle.auto_core.specs.Outcome.{At}
 use Rattle.auto_core.specs.Pairs.{set_after}
 use Rattle.auto_core.specs.declared.parts.Trans.{Trans}
 use Rattle.auto_core.specs.declared.parts.Origin.TheVariants.{Next}
-use Rattle.search_laws.proofs.PlaceLemmas.{at_same, at_within, read_at}
+use Rattle.auto_laws.proofs.PlaceLemmas.{at_same, at_within, read_at}
 use Rattle.set_rows.specs.Sets.{IsRow, IsSubset, IsCovered}
 use Rattle.antichain.specs.declared.parts.Held.{Held}
 use Rattle.antichain.specs.declared.sets.Made.{Made}

@@ -7,7 +7,7 @@ use Rattle.std.specs.Vec.{with_items}
 use Rattle.set_rows.specs.Sets.{IsRow, IsSubset, IsCovered}
 use Rattle.antichain.specs.declared.parts.Held.{Held}
 use Rattle.antichain.specs.Kept.{IsPrepared}
-use Rattle.search_laws.proofs.PlaceLemmas.{take_front}
+use Rattle.auto_laws.proofs.PlaceLemmas.{take_front}
 use Rattle.antichain.proofs.KeptLemmas.{start_kept, prepared_by}
 use Rattle.antichain.proofs.candidates.start_candidate.Goals as goal
 

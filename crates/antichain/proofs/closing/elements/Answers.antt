@@ -5,7 +5,7 @@ use Rattle.cert_value.specs.declared.types.Element.{Element}
 use Rattle.antichain.specs.declared.parts.Held.{Held}
 use Rattle.antichain.specs.declared.family.Family.{Family}
 use Rattle.antichain.specs.Marks.{IsHeldMark, AreMarked}
-use Rattle.search_laws.proofs.PlaceLemmas.{read_at}
+use Rattle.auto_laws.proofs.PlaceLemmas.{read_at}
 use Rattle.antichain.proofs.ClosureLemmas.{marked_more}
 use Rattle.antichain.proofs.closing.elements.Goals as goal
 use Rattle.antichain.proofs.closing.elements.Goals.{then-index, else-index}

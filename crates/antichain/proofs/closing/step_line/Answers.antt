@@ -3,7 +3,7 @@ use Rattle.auto_core.specs.Automaton.{Automaton, IsOutgoing}
 use Rattle.auto_core.specs.Outcome.{At, Entry, IsLeastSubsumer, next_entry}
 use Rattle.auto_core.specs.PairOutcome.{pair_rules}
 use Rattle.cert_value.specs.declared.types.StepLine.{StepLine}
-use Rattle.search_laws.proofs.PlaceLemmas.{at_same, at_within, at_cases, read_at}
+use Rattle.auto_laws.proofs.PlaceLemmas.{at_same, at_within, at_cases, read_at}
 use Rattle.antichain.specs.declared.parts.Held.{Held}
 use Rattle.antichain.specs.declared.family.Family.{Family}
 use Rattle.antichain.specs.Kept.{IsPrepared, entries_held}

@@ -6,7 +6,7 @@ use Rattle.auto_core.specs.Automaton.{Automaton}
 use Rattle.auto_core.specs.Outcome.{At, Entry}
 use Rattle.auto_core.specs.PairOutcome.{pair_rules}
 use Rattle.cert_value.specs.declared.types.StepLine.{StepLine}
-use Rattle.search_laws.proofs.PlaceLemmas.{at_cases, at_within}
+use Rattle.auto_laws.proofs.PlaceLemmas.{at_cases, at_within}
 use Rattle.antichain.specs.declared.family.Family.{Family}
 use Rattle.antichain.specs.declared.sets.Sets.{Sets}
 use Rattle.antichain.specs.Kept.{entries_held}

@@ -5,7 +5,7 @@ use Rattle.auto_core.specs.Pairs.{PairSubsumes, StatePair}
 use Rattle.auto_core.specs.Outcome.{At}
 use Rattle.antichain.specs.declared.parts.Held.{Held}
 use Rattle.antichain.specs.Kept.{held_pair}
-use Rattle.search_laws.proofs.PlaceLemmas.{read_at}
+use Rattle.auto_laws.proofs.PlaceLemmas.{read_at}
 use Rattle.antichain.proofs.KeptLemmas.{subset_subsumes}
 use Rattle.antichain.proofs.MeetingLemmas.{AreDroppedSoFar, dropped_all, dropped_more, kept_more}
 use Rattle.antichain.proofs.meeting.drop_subsumed.Goals as goal

@@ -3,7 +3,7 @@ use Rattle.std.proofs.lemmas.Bool.{cases_lt, false≢true}
 use Rattle.auto_core.specs.Game.{Holds}
 use Rattle.auto_core.specs.Pairs.{PairSubsumes}
 use Rattle.auto_core.specs.Outcome.{At}
-use Rattle.search_laws.proofs.PlaceLemmas.{at_same, at_within, read_at}
+use Rattle.auto_laws.proofs.PlaceLemmas.{at_same, at_within, read_at}
 use Rattle.antichain.specs.declared.parts.Held.{Held}
 use Rattle.antichain.specs.Kept.{held_pair}
 use Rattle.antichain.proofs.KeptLemmas.{subset_subsumes}

@@ -6,7 +6,7 @@ use Rattle.auto_core.specs.Pairs.{set_after}
 use Rattle.std.specs.Vec.{with_items}
 use Rattle.set_rows.specs.Sets.{IsRow, IsSubset, IsCovered}
 use Rattle.antichain.specs.declared.sets.Made.{Made}
-use Rattle.search_laws.proofs.PlaceLemmas.{take_front}
+use Rattle.auto_laws.proofs.PlaceLemmas.{take_front}
 use Rattle.antichain.proofs.sets.make.Goals as goal
 
 pub returns-clause-made : goal.returns-clause-made

@@ -2,7 +2,7 @@ use Rattle.std.proofs.Common.{◌≡◌, ℕ, ◌<◌, List, [], ◌∷◌, ◌+
 use Rattle.auto_core.specs.Automaton.{Automaton}
 use Rattle.auto_core.specs.Outcome.{At, Entry, PassesBefore}
 use Rattle.auto_core.specs.PairOutcome.{pair_rules}
-use Rattle.search_laws.proofs.PlaceLemmas.{at_new}
+use Rattle.auto_laws.proofs.PlaceLemmas.{at_new}
 use Rattle.antichain.specs.declared.parts.Held.{Held}
 use Rattle.antichain.specs.declared.parts.Fate.TheVariants as fates
 use Rattle.antichain.specs.declared.family.Family.{Family}

@@ -2,7 +2,7 @@ use Rattle.std.proofs.Common.{◌≡◌, ℕ, ◌+◌, ◌<◌, false, List, [],
 use Rattle.std.proofs.lemmas.List.{get_or_default}
 use Rattle.auto_core.specs.Automaton.{Automaton, IsOutgoing}
 use Rattle.auto_core.specs.Outcome.{At, Entry}
-use Rattle.search_laws.proofs.PlaceLemmas.{at_within, read_at}
+use Rattle.auto_laws.proofs.PlaceLemmas.{at_within, read_at}
 use Rattle.antichain.specs.declared.parts.Held.{Held}
 use Rattle.antichain.specs.declared.parts.Fate.TheVariants as fates
 use Rattle.antichain.specs.declared.family.Family.{Family}

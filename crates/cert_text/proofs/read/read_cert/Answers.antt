@@ -4,7 +4,7 @@ use Rattle.cert_text.proofs.read.read_cert.Goals as goal
 pub returns-in-Ok : goal.returns-in-Ok
 returns-in-Ok c =
     let bytes = c.args.bytes.now in
-    let has = c.in-Ok.ensures.read [] c.in_ok-reader.ensures (omega (arith, c.requires)) in
+    let has = c.in-Ok.ensures.read [] c.empty-reader.ensures (omega (arith, c.requires)) in
     record {
       found = c.finish.ensures.found bytes has;
       only = λ k w e. c.finish.ensures.only bytes has k w e;

@@ -1,6 +1,6 @@
 use Rattle.std.proofs.Common.{ℕ, refl, subst}
-use Rattle.cross_text.specs.declared.types.Cross.{Cross}
-use Rattle.relation_rows.specs.Rows.{HoldsFrom, AreRows}
+use Rattle.cert_text.specs.declared.cross.Cross.{Cross}
+use Rattle.log_check.specs.Rows.{HoldsFrom, AreRows}
 use Rattle.cross_sim.proofs.WrittenLemmas.{cross_made, pair_listed}
 use Rattle.cross_sim.proofs.written.cross_within.Goals as goal
 

@@ -1,6 +1,5 @@
 use Rattle.std.proofs.Common.{List, refl, sym, subst, ◌∙◌, arith}
-use Rattle.bit_rel.specs.Relation.{Relation, IsRelation}
-use Rattle.bit_rel.proofs.TableLemmas.{valid_table}
+use Rattle.reduce_loop.specs.declared.steps.Reduced.{Reduced}
 use Rattle.reduce_loop.specs.declared.steps.Step.{Step}
 use Rattle.reduce_loop.proofs.PassLemmas.{reduced_no_larger}
 use Rattle.cert_value.specs.declared.types.Cert.{Cert}
@@ -35,17 +34,16 @@ pub body_of-requires-clause-few : goal.body_of-requires-clause-few
 body_of-requires-clause-few c =
     let less = reduced_no_larger c.args.pair.now.second c.in_ok-second.second.auto c.args.terms.mode (sight_of c.args.terms) c.states-second_states.ensures.valid c.requires.bounded.look_from c.in_ok-second.ensures.reduced in
     let fewer = less.states in
-    omega (arith, c.in_ok-order.ensures.size, c.requires.second_parts.states)
+    omega (arith, c.in_ok-second.ensures.order.on_states, c.requires.second_parts.states)
 
 pub returns : goal.returns
 returns c =
     let pair = c.args.pair.now in
     let first = c.in_ok-first.first in
-    let second = c.in_ok-second.second in
+    let second : Reduced = record { auto = c.in_ok-second.second.auto; log = c.in_ok-second.second.log } in
     let logs = c.in_ok-logs.logs in
-    let R = c.in_ok-order.order in
-    let valid : IsRelation R = subst (λ (R : Relation). IsRelation R) c.order.view_is (valid_table c.order.inside.table.items c.order.inside.width c.order.inside.count) in
-    let order : IsOrder second.auto R.pairs = record { greatest = c.in_ok-order.ensures.greatest; ascending = valid.in_order } in
+    let R = c.in_ok-second.second.order in
+    let order : IsOrder second.auto R.pairs = record { greatest = c.in_ok-second.ensures.order.greatest; ascending = c.in_ok-second.ensures.order.valid.in_order } in
     let written : AreLogsOf first.log second.log logs =
     subst (λ (l : List Step). AreLogsOf l second.log logs) c.as_slice.ensures (subst (λ (l : List Step). AreLogsOf c.as_slice.result.now l logs) c.as_slice-2.ensures c.in_ok-logs.ensures) in
     let cert : Cert = record { version = c.args.terms.version; mode = c.args.terms.mode; first_states = c.states-first_states.result; second_states = c.states-second_states.result; labels = c.count.result; body = c.in_ok-body_of.field-0 } in

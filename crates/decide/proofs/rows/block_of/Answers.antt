@@ -1,6 +1,6 @@
 use Rattle.std.proofs.Common.{subst}
 use Rattle.decide.proofs.WrittenLemmas.{rows_are_block}
-use Rattle.relation_rows.specs.Rows.{HoldsFrom, AreRows}
+use Rattle.log_check.specs.Rows.{HoldsFrom, AreRows}
 use Rattle.decide.proofs.rows.block_of.Goals as goal
 
 pub returns : goal.returns

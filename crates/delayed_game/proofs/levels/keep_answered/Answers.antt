@@ -1,7 +1,7 @@
 use Rattle.std.proofs.Common.{◌≡◌, ◌&&◌, inl, inr, sym, ap, ◌∙◌, subst, arith}
 use Rattle.std.proofs.lemmas.Bool.{cases_eq, cases_lt, and_parts, and_from}
 use Rattle.auto_core.specs.Rows.{bit_of, cell_of, HasCell}
-use Rattle.row_steps.proofs.WordLemmas.{first_cell}
+use Rattle.bit_rows.proofs.WordLemmas.{first_cell}
 use Rattle.delayed_game.proofs.levels.keep_answered.Goals as goal
 
 pub loop-t-init : goal.loop-t-init

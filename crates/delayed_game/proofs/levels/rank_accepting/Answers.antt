@@ -4,7 +4,7 @@ use Rattle.auto_core.specs.Automaton.{Automaton, IsAccepting}
 use Rattle.auto_core.specs.Rows.{bit_of, cell_of, HasBit}
 use Rattle.auto_core.specs.Game.{Holds}
 use Rattle.delayed_game.specs.Pairings.{Pairing}
-use Rattle.row_steps.proofs.WordLemmas.{first_cell}
+use Rattle.bit_rows.proofs.WordLemmas.{first_cell}
 use Rattle.delayed_game.specs.Boards.{row_words}
 use Rattle.delayed_game.proofs.BeforeLemmas.{bit_near, gives_none, gives_row, gives_all}
 use Rattle.delayed_game.proofs.levels.rank_accepting.Goals as goal

@@ -2,7 +2,7 @@ use Rattle.std.proofs.Common.{◌≡◌, ℕ, ◌+◌, ◌<◌, List, sym, ◌�
 use Rattle.std.proofs.lemmas.Bool.{iff_false, false≢true}
 use Rattle.std.proofs.lemmas.List.Elements.{All-contains}
 use Rattle.auto_core.specs.Automaton.{IsAccepting}
-use Rattle.row_steps.proofs.MarkLemmas.{MarksUpto, marks_more, marks_passed}
+use Rattle.bit_rows.proofs.MarkLemmas.{MarksUpto, marks_more, marks_passed}
 use Rattle.delayed_game.proofs.levels.write_accepting.Goals as goal
 use Rattle.delayed_game.proofs.levels.write_accepting.Goals.{then-accepting, else-accepting}
 

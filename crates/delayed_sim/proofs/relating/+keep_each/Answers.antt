@@ -2,7 +2,7 @@ use Rattle.std.proofs.Common.{rules, ◌≡◌, ℕ, suc, ◌*◌, ◌&&◌, ◌
 use Rattle.std.proofs.lemmas.Bool.{cases_eq, false≢true, and_parts, and_from}
 use Rattle.std.proofs.lemmas.List.{length-take-le, take_more_set}
 use Rattle.auto_core.specs.Rows.{bit_of}
-use Rattle.row_steps.proofs.WordLemmas.{first_cell}
+use Rattle.bit_rows.proofs.WordLemmas.{first_cell}
 use Rattle.delayed_sim.specs.Related.{HoldsEach}
 use Rattle.delayed_game.proofs.BeforeLemmas.{bit_near}
 use Rattle.delayed_sim.proofs.RelateLemmas.{each_whole, each_of_all, one_of_each}

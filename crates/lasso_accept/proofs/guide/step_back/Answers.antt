@@ -1,6 +1,6 @@
 use Rattle.std.proofs.Common.{◌≡◌, ◌-◌, ◌*◌, ◌<◌, ℕ, List, sym, subst, ◌∙◌}
 use Rattle.auto_core.specs.Rows.{bit_of, cell_of}
-use Rattle.row_steps.proofs.WordLemmas.{first_cell}
+use Rattle.bit_rows.proofs.WordLemmas.{first_cell}
 use Rattle.lasso_accept.proofs.GuideLemmas.{row_back}
 use Rattle.lasso_accept.proofs.guide.step_back.Goals as goal
 

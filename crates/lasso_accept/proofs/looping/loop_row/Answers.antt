@@ -3,7 +3,7 @@ use Rattle.auto_core.specs.Automaton.{Automaton, IsAutomaton}
 use Rattle.auto_core.specs.Rows.{HasBit}
 use Rattle.auto_core.specs.Reach.{HasArc}
 use Rattle.set_rows.specs.Sets.{IsRow}
-use Rattle.loop_rows.specs.Loops.{LeadsToLoop}
+use Rattle.bit_rows.specs.Loops.{LeadsToLoop}
 use Rattle.lasso_accept.specs.Plane.{ArePlanes}
 use Rattle.lasso_accept.specs.Looping.{AcceptsLoopFrom}
 use Rattle.lasso_accept.proofs.LoopingLemmas.{written_whole, leads_as_accepts}

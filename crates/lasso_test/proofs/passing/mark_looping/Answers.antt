@@ -2,7 +2,7 @@ use Rattle.std.proofs.Common.{◌↔◌, ◌<◌, rules}
 use Rattle.auto_core.specs.Graph.{Graph}
 use Rattle.auto_core.specs.Rows.{HasBit}
 use Rattle.graph_rows.specs.Block.{block_graph}
-use Rattle.loop_rows.specs.Loops.{LeadsToLoop}
+use Rattle.bit_rows.specs.Loops.{LeadsToLoop}
 use Rattle.lasso_test.proofs.LoopLemmas.{leads_as_loop}
 use Rattle.lasso_test.proofs.passing.mark_looping.Goals as goal
 

@@ -1,7 +1,7 @@
 use Rattle.std.proofs.Common.{◌≡◌, ◌↔◌, ◌*◌, ℕ, ◌<◌, ◌≤◌, false, List, IsTrue, arith, rules}
 use Rattle.auto_core.specs.Rows.{bit_of, cell_of}
 use Rattle.auto_core.specs.Reach.{HasArc, HasFlaggedCycle}
-use Rattle.graph_laws.proofs.AppliedLemmas.{lassos_are_cycles}
+use Rattle.auto_laws.proofs.AppliedGraphLemmas.{lassos_are_cycles}
 use Rattle.graph_rows.specs.Block.{width_of, joined_plane, past_plane}
 use Rattle.graph_rows.proofs.ArcLemmas.{row_marks}
 use Rattle.lasso_test.proofs.passing.passes.Goals as goal

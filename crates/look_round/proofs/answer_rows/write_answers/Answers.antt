@@ -36,8 +36,8 @@ overflow_cast-r-then-matched g c =
     let fits : c.in-Some.r < 2 ^ 32 = omega arith in
     search rules
 
-pub mark_arrivals-requires-clause-state : goal.mark_arrivals-requires-clause-state
-mark_arrivals-requires-clause-state g c =
+pub add-requires-clause-state : goal.add-requires-clause-state
+add-requires-clause-state g c =
     state_below c.args.rel.now c.row.result.now c.args.automaton.now.states c.args.t c.in-Some.r c.requires.equal c.row.ensures.valid (c.row.ensures.bits c.in-Some.r) c.in-Some.ensures.found.here
 
 pub overflow_add-at : goal.overflow_add-at
@@ -60,8 +60,8 @@ loop-r-preserved g c =
     let M = g.S.Side.goes s A in
     let ok = g.S.Side.matches s A in
     let W = Holds c.args.rel.now.pairs in
-    let l = c.args.labels in
-    let w = c.args.width in
+    let l = c.args.arrivals.now.labels in
+    let w = c.args.arrivals.now.width in
     let t = c.args.t in
     let r = c.in-Some.r in
     let old = c.args.table.now in
@@ -74,7 +74,7 @@ loop-r-preserved g c =
       elim c.if-matched.branch [
         | then-matched b ↦
             subst P (sym b.table-is)
-            (answers_marked M ok W old now b.mark_arrivals.new.table l w t c.loop-r.at r c.loop-r.invariant.0 next.behind none related (c.matched.ensures.0 b.if-matched.true) b.mark_arrivals.ensures.here b.mark_arrivals.ensures.others)
+            (answers_marked M ok W old now b.add.new.table l w t c.loop-r.at r c.loop-r.invariant.0 next.behind none related (c.matched.ensures.0 b.if-matched.true) b.add.ensures.here b.add.ensures.others)
         | else-matched b ↦ subst P (sym b.table-is) (answers_passed M ok W old now l w t c.loop-r.at r c.loop-r.invariant.0 next.behind none (iff_false c.matched.ensures b.if-matched.false))
       ],
       omega arith,
@@ -84,5 +84,5 @@ pub returns-clause-here : goal.returns-clause-here
 returns-clause-here g c =
     let M = g.S.Side.goes c.args.side.now c.args.automaton.now in
     let ok = g.S.Side.matches c.args.side.now c.args.automaton.now in
-    answers_done M ok (Holds c.args.rel.now.pairs) c.args.table.now c.loop-r.table c.args.labels c.args.width c.args.t c.loop-r.at c.loop-r.invariant.0
+    answers_done M ok (Holds c.args.rel.now.pairs) c.args.table.now c.loop-r.table c.args.arrivals.now.labels c.args.arrivals.now.width c.args.t c.loop-r.at c.loop-r.invariant.0
     (λ x from is. false≢true (sym (c.in_default.ensures.none x from) ∙ (c.row.ensures.bits x).1 is))

@@ -3,7 +3,7 @@ use Rattle.std.proofs.lemmas.Bool.{cases_eq, cases_lt, false≢true}
 use Rattle.auto_core.specs.Rows.{HasBit}
 use Rattle.auto_core.specs.Game.{Holds}
 use Rattle.bit_rel.specs.Relation.{Relation, Adds}
-use Rattle.row_steps.specs.Walks.{IsNextBit}
+use Rattle.bit_rows.specs.Walks.{IsNextBit}
 use Rattle.look_round.proofs.bounding.add_row.Goals as goal
 
 -- the relation holds what it held and the pairs of p with the states of the row below `at`

@@ -1,6 +1,6 @@
 use Rattle.std.proofs.Common.{◌≡◌, ℕ, ◌+◌, List, sym, ◌∙◌, subst, arith}
 use Rattle.std.proofs.lemmas.Bool.{iff_false, false≢true}
-use Rattle.row_steps.proofs.MarkLemmas.{MarksUpto, marks_more, marks_passed}
+use Rattle.bit_rows.proofs.MarkLemmas.{MarksUpto, marks_more, marks_passed}
 use Rattle.look_round.proofs.kinds.match_row.Goals as goal
 use Rattle.look_round.proofs.kinds.match_row.Goals.{then-matched, else-matched}
 

@@ -1,4 +1,4 @@
-use Rattle.row_steps.proofs.MarkLemmas.{MarksUpto}
+use Rattle.bit_rows.proofs.MarkLemmas.{MarksUpto}
 use Rattle.look_round.proofs.kinds.match_row.Given as goal
 
 abbrev pub invariant-loop-q : goal.invariant-loop-q

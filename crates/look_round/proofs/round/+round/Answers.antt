@@ -5,7 +5,7 @@ use Rattle.auto_core.specs.Game.{Holds, IsDead}
 use Rattle.look_round.specs.Replies.{HasReply, HasReplyFrom, RoundFrom, RoundAfter, KeepsRows}
 use Rattle.look_round.proofs.RoundLemmas.{after_same, met, ended, goes_on}
 use Rattle.look_round.proofs.StepLemmas.{reply_same}
-use Rattle.look_round.proofs.KnownLemmas.{known_answered, known_more}
+use Rattle.look_round.proofs.KnownLemmas.{in_row, known_answered, known_more}
 use Rattle.look_round.proofs.RoundLoop.{told_first, one_answered, all_answered, one_unanswered, dead_from, alive_from}
 use Rattle.look_round.proofs.round.+round.Given.{Over}
 use Rattle.look_round.proofs.round.+round.Goals as goal
@@ -69,7 +69,7 @@ round_from-loop-at-preserved g t c =
       c.step_answered.ensures.capacity ∙ c.loop-at.invariant.1,
       one_answered (g.S.Side.goes s A) (g.S.Side.matches s A) (Holds c.args.rel.now.pairs) (g.S.Side.list s A c.args.p) c.args.left A.states w L room c.args.sets.now c.loop-at.sets c.step_answered.new.sets c.loop-at.at
           c.nth-step.result c.loop-at.invariant.2 c.nth-step.ensures.item (told.0 held) (subst Q same c.step_answered.ensures.kept),
-      c.step_answered.ensures.answered,
+      c.step_answered.ensures.known,
     )
 
 pub round_from-returns-clause-told : goal.round_from-returns-clause-told
@@ -106,10 +106,10 @@ step_answered-returns-then-step_into-clause-told g t c =
     let p = c.args.step.to in
     let D : ℕ → Type 0 = HasReply c.args.sets.now n w (length c.args.path.now.items) in
     let E : ℕ → Type 0 = HasReplyFrom M ok a p D in
-    let P : ℕ → Type 0 = λ x. IsTrue c.step_into.result ↔ ((r : ℕ) × HasReplyFrom M ok a p (HasReply c.args.sets.now n w x) r × HasBit c.row-related.result.now r) in
+    let P : ℕ → Type 0 = λ x. IsTrue c.step_into.result ↔ ((r : ℕ) × HasReplyFrom M ok a p (HasReply c.args.sets.now n w x) r × W p r) in
     let one = subst P c.len-number.ensures.value c.step_into.ensures.told in
     let found = one.0 c.if-step_into.true in (
-      λ h. met M ok W c.args.left a p D E (λ r. (λ x. x, λ x. x)) found.0 found.1 ((c.row-related.ensures.bits found.0).0 found.2),
+      λ h. met M ok W c.args.left a p D E (λ r. (λ x. x, λ x. x)) found.0 found.1 found.2,
       λ h. refl,
     )
 
@@ -145,10 +145,12 @@ step_answered-returns-then-left-eq1-clause-told g t c =
     let p = c.args.step.to in
     let D : ℕ → Type 0 = HasReply c.args.sets.now n w (length c.args.path.now.items) in
     let E : ℕ → Type 0 = HasReplyFrom M ok a p D in
-    let P : ℕ → Type 0 = λ x. IsTrue c.one_has_reply_in.result ↔ ((r : ℕ) × HasReplyFrom M ok a p (HasReply c.args.sets.now n w x) r × HasBit c.row-related.result.now r) in
-    let one = subst P c.len-number.ensures.value c.one_has_reply_in.ensures in (
-      λ h. let found = one.0 h in met M ok W c.args.left a p D E (λ r. (λ x. x, λ x. x)) found.0 found.1 ((c.row-related.ensures.bits found.0).0 found.2),
-      λ h. true_if one (λ apart. ended M ok W c.args.left a p D E (λ r. (λ x. x, λ x. x)) (λ r is related. apart (r, is, (c.row-related.ensures.bits r).1 related)) (inl c.if-left-eq1.true) h),
+    let P : ℕ → Type 0 = λ x. IsTrue c.step_into.result ↔ ((r : ℕ) × HasReplyFrom M ok a p (HasReply c.args.sets.now n w x) r × W p r) in
+    let one = subst P c.len-number.ensures.value c.step_into.ensures.told in
+    let apart = iff_false one c.if-step_into.false in
+    let none : (r : ℕ) → E r → W p r → ⊥ = λ r is related. apart (r, is, related) in (
+      λ h. absurd (false≢true h),
+      λ h. absurd (ended M ok W c.args.left a p D E (λ r. (λ x. x, λ x. x)) none (inl c.if-left-eq1.true) h),
     )
 
 pub step_answered-returns-then-moves-eq0-clause-told : goal.step_answered-returns-then-moves-eq0-clause-told
@@ -164,10 +166,10 @@ step_answered-returns-then-moves-eq0-clause-told g t c =
     let p = c.args.step.to in
     let D : ℕ → Type 0 = HasReply c.args.sets.now n w (length c.args.path.now.items) in
     let E : ℕ → Type 0 = HasReplyFrom M ok a p D in
-    let P : ℕ → Type 0 = λ x. IsTrue c.step_into.result ↔ ((r : ℕ) × HasReplyFrom M ok a p (HasReply c.args.sets.now n w x) r × HasBit c.row-related.result.now r) in
+    let P : ℕ → Type 0 = λ x. IsTrue c.step_into.result ↔ ((r : ℕ) × HasReplyFrom M ok a p (HasReply c.args.sets.now n w x) r × W p r) in
     let one = subst P c.len-number.ensures.value c.step_into.ensures.told in
     let apart = iff_false one c.if-step_into.false in
-    let none : (r : ℕ) → E r → W p r → ⊥ = λ r is related. apart (r, is, (c.row-related.ensures.bits r).1 related) in
+    let none : (r : ℕ) → E r → W p r → ⊥ = λ r is related. apart (r, is, related) in
     let dead : IsDead M p = dead_from M (g.S.Side.list s A p) p (g.met.S.Side.lists s A p) (sym c.moves.ensures ∙ c.if-moves-eq0.true) in
     let some = c.requires.left in
     let more : 1 < c.args.left = omega (arith, c.if-left-eq1.false) in (
@@ -175,8 +177,8 @@ step_answered-returns-then-moves-eq0-clause-told g t c =
       λ h. absurd (ended M ok W c.args.left a p D E (λ r. (λ x. x, λ x. x)) none (inr (more, dead)) h),
     )
 
-pub step_answered-returns-then-is_known-clause-told : goal.step_answered-returns-then-is_known-clause-told
-step_answered-returns-then-is_known-clause-told g t c =
+pub step_answered-returns-then-is_answered-clause-told : goal.step_answered-returns-then-is_answered-clause-told
+step_answered-returns-then-is_answered-clause-told g t c =
     let A = c.args.automaton.now in
     let s = c.args.side.now in
     let M = g.S.Side.goes s A in
@@ -184,15 +186,27 @@ step_answered-returns-then-is_known-clause-told g t c =
     let W = Holds c.args.rel.now.pairs in
     let n = A.states in
     let w = c.args.width in
-    let a = c.args.step.label in
-    let p = c.args.step.to in
+    let number = c.len-number.result in
     let width = c.requires.width in
     let room : n ≤ w * 64 = omega arith in
-    let near : p < w * 64 = omega (arith, c.requires.step) in
-    let known = c.is_known.ensures c.if-is_known.true in
-    let P : ℕ → Type 0 = λ x. RoundAfter M ok W c.args.left a p (HasReply c.args.sets.now n w x) in
-    let answered = known_answered M ok W n w room c.args.letters.now c.args.held.now c.args.known.now c.args.sets.now c.row_at-row.result.now c.args.left c.len-number.result a p near c.requires.answered known.0 known.1 c.row_at-row.ensures.bits in
+    let (l, bit, cell, is) = c.is_answered.ensures c.if-is_answered.true in
+    let rows = in_row c.step_into.new.sets c.row_at.result.now n w number room (λ q near. sym (c.row_at.ensures.bits q near)) in
+    let same = reply_same c.args.sets.now c.step_into.new.sets n w number room (λ q near. c.step_into.ensures.others number q near (λ e. omega arith)) in
+    let P : ℕ → Type 0 = λ x. RoundAfter M ok W c.args.left c.args.step.label c.args.step.to (HasReply c.args.sets.now n w x) in
+    let answered : P number =
+    known_answered M ok W n c.step_into.new.known l c.args.left c.args.step.label c.args.step.to c.row_at.result.now (HasReply c.args.sets.now n w number) c.step_into.ensures.known c.requires.step bit cell is
+    (λ q h. (same q).0 ((rows q).1 h)) in
     (λ h. subst P c.len-number.ensures.value answered, λ h. refl)
+
+pub step_answered-returns-then-is_answered-clause-kept : goal.step_answered-returns-then-is_answered-clause-kept
+step_answered-returns-then-is_answered-clause-kept g t c =
+    let value : c.len-number.result ≡ length c.args.path.now.items = c.len-number.ensures.value in
+    λ i q i_in near. c.step_into.ensures.others i q near (λ e. omega (arith, value))
+
+pub step_answered-returns-then-left-eq1-clause-kept : goal.step_answered-returns-then-left-eq1-clause-kept
+step_answered-returns-then-left-eq1-clause-kept g t c =
+    let value : c.len-number.result ≡ length c.args.path.now.items = c.len-number.ensures.value in
+    λ i q i_in near. c.step_into.ensures.others i q near (λ e. omega (arith, value))
 
 -- How long the path is, which the round from the move's end begins with.
 longer : (g : Over) (t : ℕ) (c : step_answered-After-round_from-answered g t) → length c.push_reserved.new.self.items ≡ c.len-number.result + 1
@@ -215,14 +229,14 @@ rest_told g t c =
     let a = c.args.step.label in
     let p = c.args.step.to in
     let old = c.args.sets.now in
-    let new = c.step_into.new.table in
+    let new = c.step_into.new.sets in
     let number = c.len-number.result in
     let P : ℕ → Type 0 = λ x. (r : ℕ) → HasReply new n w (number + 1) r ↔ HasReplyFrom M ok a p (HasReply old n w x) r in
     let replies = subst P c.len-number.ensures.value c.step_into.ensures.next in
-    let Q1 : ℕ → Type 0 = λ x. IsTrue c.step_into.result ↔ ((r : ℕ) × HasReplyFrom M ok a p (HasReply old n w x) r × HasBit c.row-related.result.now r) in
+    let Q1 : ℕ → Type 0 = λ x. IsTrue c.step_into.result ↔ ((r : ℕ) × HasReplyFrom M ok a p (HasReply old n w x) r × W p r) in
     let one = subst Q1 c.len-number.ensures.value c.step_into.ensures.told in
     let apart = iff_false one c.if-step_into.false in
-    let none : (r : ℕ) → HasReply new n w (number + 1) r → W p r → ⊥ = λ r is related. apart (r, (replies r).0 is, (c.row-related.ensures.bits r).1 related) in
+    let none : (r : ℕ) → HasReply new n w (number + 1) r → W p r → ⊥ = λ r is related. apart (r, (replies r).0 is, related) in
     let alive : IsDead M p → ⊥ = alive_from M (g.S.Side.list s A p) p (g.met.S.Side.lists s A p) (λ e. c.if-moves-eq0.false (c.moves.ensures ∙ e)) in
     let some = c.requires.left in
     let more : 1 < c.args.left = omega (arith, c.if-left-eq1.false) in
@@ -254,9 +268,9 @@ step_answered-returns-clause-told g t c =
     let holds : c.round_from-answered.result ≡ true = search rules in
     (λ h. told.0 holds, λ h. refl)
 
-pub step_answered-returns-clause-answered : goal.step_answered-returns-clause-answered
-step_answered-returns-clause-answered g t c =
-    let path = (goal.at.step_answered-returns-clause-answered g t c).After-round_from-answered in
+pub step_answered-returns-clause-known : goal.step_answered-returns-clause-known
+step_answered-returns-clause-known g t c =
+    let path = (goal.at.step_answered-returns-clause-known g t c).After-round_from-answered in
     let told = rest_told g t path in
     let M = g.S.Side.goes c.args.side.now c.args.automaton.now in
     let ok = g.S.Side.matches c.args.side.now c.args.automaton.now in
@@ -272,12 +286,11 @@ step_answered-returns-clause-answered g t c =
     let room : n ≤ w * 64 = omega (arith, c.requires.width) in
     let sets = c.round_from-answered.new.sets in
     let same = reply_same old sets n w number room (λ q near. rows_kept g t path number q (omega (arith, value)) near) in
-    let D : ℕ → Type 0 = HasReply sets n w number in
     let P2 : ℕ → Type 0 = λ x. RoundAfter M ok W c.args.left a p (HasReply old n w x) in
-    let here : RoundAfter M ok W c.args.left a p (HasReply old n w number) = subst P2 (sym value) (told.0 holds) in
-    let now : RoundAfter M ok W c.args.left a p D = after_same M ok W (HasReply old n w number) D (λ q. (same q).1) c.args.left a p here in
-    known_more M ok W n w room c.round_from-answered.new.letters c.round_from-answered.new.held c.round_from-answered.new.known c.note.new.letters c.note.new.held c.note.new.known sets c.row_at-row-2.result.now
-    c.args.left number a p c.round_from-answered.ensures.answered c.note.ensures c.row_at-row-2.ensures.bits now
+    let here : P2 number = subst P2 (sym value) (told.0 holds) in
+    let rows = in_row sets c.row_at-2.result.now n w number room (λ q near. sym (c.row_at-2.ensures.bits q near)) in
+    known_more M ok W n c.round_from-answered.new.known c.note.new.self c.args.left a p c.row_at-2.result.now (HasReply old n w number) c.note.ensures.notes c.note.ensures.replies c.round_from-answered.ensures.known
+    (λ q h. (rows q).0 ((same q).1 h)) here
 
 pub step_answered-returns-then-not-answered-clause-kept : goal.step_answered-returns-then-not-answered-clause-kept
 step_answered-returns-then-not-answered-clause-kept g t c = rows_kept g t (goal.at.step_answered-returns-then-not-answered-clause-kept g t c).After-round_from-answered
@@ -294,8 +307,3 @@ pub step_answered-returns-then-moves-eq0-clause-kept : goal.step_answered-return
 step_answered-returns-then-moves-eq0-clause-kept g t c =
     let value : c.len-number.result ≡ length c.args.path.now.items = c.len-number.ensures.value in
     λ i q i_in near. c.step_into.ensures.others i q near (λ e. omega (arith, value))
-
-pub step_answered-step_into-requires-clause-states : goal.step_answered-step_into-requires-clause-states
-step_answered-step_into-requires-clause-states g t c = λ q bit.
-    let below = (c.row-related.ensures.valid.in_range c.args.step.to q ((c.row-related.ensures.bits q).0 bit)).1 in
-    omega (arith, below, c.requires.equal)

@@ -15,4 +15,4 @@ invariant-round_from-loop-at g l =
     (l.path.items ≡ l.fn.path.items)
     × (l.path.capacity ≡ l.fn.path.capacity)
     × IsAnsweredUpto (g.S.Side.goes l.side l.automaton) (g.S.Side.matches l.side l.automaton) (Holds l.rel.pairs) (g.S.Side.list l.side l.automaton l.p) l.left l.automaton.states l.width (length l.fn.path.items) l.fn.sets l.sets l.at
-    × AreKnown (g.S.Side.goes l.side l.automaton) (g.S.Side.matches l.side l.automaton) (Holds l.rel.pairs) l.automaton.states l.width l.letters l.held l.known
+    × AreKnown (g.S.Side.goes l.side l.automaton) (g.S.Side.matches l.side l.automaton) (Holds l.rel.pairs) l.automaton.states l.known

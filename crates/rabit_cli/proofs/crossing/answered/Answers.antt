@@ -3,7 +3,7 @@ use Rattle.rabit_frame.specs.declared.parts.Status.TheVariants as status
 use Rattle.rabit_frame.specs.declared.parts.Reply.{Reply}
 use Rattle.rabit_frame.specs.Reading.{only_said}
 use Rattle.cross_sim.proofs.ThereLemmas.{greatest_cross_is_there}
-use Rattle.rabit_replies.specs.Printed.{no_relation_text}
+use Rattle.rabit_frame.specs.Printed.{no_relation_text}
 use Rattle.rabit_cli.specs.Cross.{HasInitialPair, IsCrossReply}
 use Rattle.rabit_cli.proofs.PairLemmas.{ok_gives}
 use Rattle.rabit_cli.proofs.crossing.answered.Goals as goal

@@ -1,7 +1,7 @@
 use Rattle.std.proofs.Common.{codes, ◌∙◌, subst}
 use Rattle.ba_format.specs.Reading.{Reads}
 use Rattle.rabit_frame.specs.declared.parts.Reply.{Reply}
-use Rattle.rabit_replies.specs.declared.files.TheConstants.{SECOND_LIMITS}
+use Rattle.rabit_frame.specs.declared.files.TheConstants.{SECOND_LIMITS}
 use Rattle.rabit_cli.specs.Property.{IsPropertyDecided, IsPropertyDecidedFor}
 use Rattle.rabit_cli.specs.Empty.{emptiness}
 use Rattle.rabit_cli.proofs.PairLemmas.{ok_gives}

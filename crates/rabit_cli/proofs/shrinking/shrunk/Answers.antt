@@ -1,5 +1,5 @@
 use Rattle.std.proofs.Common.{MatchOption, subst}
-use Rattle.rabit_replies.specs.Replies.{IsNo}
+use Rattle.rabit_frame.specs.Replies.{IsNo}
 use Rattle.rabit_cli.specs.Shrink.{IsShrunkBody}
 use Rattle.rabit_cli.proofs.ShrinkLemmas.{letters_of_left, letters_of_left_word}
 use Rattle.rabit_cli.proofs.shrinking.shrunk.Goals as goal

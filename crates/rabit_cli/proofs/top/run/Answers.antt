@@ -5,7 +5,7 @@ use Rattle.rabit_frame.specs.Request.{Request}
 use Rattle.rabit_frame.specs.Carrying.{IsCarriedOut, TellsFaults, MakesCalls, SaysUsage}
 use Rattle.rabit_words.specs.Question.{Question, question_of}
 use Rattle.rabit_words.proofs.RangeLemmas.{question_is_proper}
-use Rattle.rabit_replies.specs.Printed.{usage_text}
+use Rattle.rabit_frame.specs.Printed.{usage_text}
 use Rattle.rabit_cli.specs.Batch.{IsBatch}
 use Rattle.rabit_cli.specs.Commands.{IfSingle, IfBatch, Shows, LeavesFiles}
 use Rattle.rabit_cli.specs.Complete.{AnswersWhatReads}

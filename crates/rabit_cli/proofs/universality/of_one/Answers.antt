@@ -2,7 +2,7 @@ use Rattle.std.proofs.Common.{◌≡◌, ◌≤◌, ◌^◌, length, None, codes
 use Rattle.ba_format.specs.Faults.{fault_of}
 use Rattle.ba_format.specs.Reading.{Reads}
 use Rattle.rabit_frame.specs.declared.parts.Reply.{Reply}
-use Rattle.rabit_replies.specs.declared.files.TheConstants.{SECOND_LIMITS}
+use Rattle.rabit_frame.specs.declared.files.TheConstants.{SECOND_LIMITS}
 use Rattle.rabit_cli.specs.Property.{IsPropertyDecided, IsPropertyDecidedFor}
 use Rattle.rabit_cli.specs.Universal.{universality}
 use Rattle.rabit_cli.proofs.PairLemmas.{ok_gives}

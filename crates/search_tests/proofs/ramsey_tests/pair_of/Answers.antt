@@ -1,6 +1,6 @@
 use Rattle.std.proofs.lemmas.Result.{IfOk-weaker}
 use Rattle.ba_format.specs.Joining.{IsJoined}
-use Rattle.rabit_replies.specs.Files.{HasLabelTexts}
+use Rattle.rabit_frame.specs.FileKinds.{HasLabelTexts}
 use Rattle.search_tests.proofs.ramsey_tests.pair_of.Goals as goal
 
 pub returns : goal.returns

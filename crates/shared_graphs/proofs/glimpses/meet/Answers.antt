@@ -1,6 +1,6 @@
 use Rattle.std.proofs.Common.{◌≡◌, ◌<◌, bit_and, length, rules}
 use Rattle.graph_rows.proofs.PrintLemmas.{words_meet}
-use Rattle.search_laws.proofs.PlaceLemmas.{read_at}
+use Rattle.auto_laws.proofs.PlaceLemmas.{read_at}
 use Rattle.shared_graphs.specs.declared.glimpses.Glimpse.{Glimpse}
 use Rattle.shared_graphs.proofs.glimpses.meet.Goals as goal
 

@@ -5,7 +5,7 @@ use Rattle.auto_core.specs.Graph as words
 use Rattle.auto_core.specs.Outcome.{At}
 use Rattle.auto_core.specs.Rows.{HasBit}
 use Rattle.graph_rows.specs.Block.{block_graph}
-use Rattle.search_laws.proofs.PlaceLemmas.{read_at}
+use Rattle.auto_laws.proofs.PlaceLemmas.{read_at}
 use Rattle.lasso_test.proofs.LoopLemmas.{lassos_enter_loops}
 use Rattle.shared_graphs.specs.declared.glimpses.Glimpse.{Glimpse}
 use Rattle.shared_graphs.specs.Graphs.{block_at}

@@ -1,6 +1,6 @@
 use Rattle.std.proofs.Common.{◌≡◌, ℕ, ◌<◌, List, length, vec_len, sym, ◌∙◌, arith}
 use Rattle.antichain.specs.declared.sets.Made.{Made}
-use Rattle.search_laws.proofs.PlaceLemmas.{read_at}
+use Rattle.auto_laws.proofs.PlaceLemmas.{read_at}
 use Rattle.antichain.proofs.sets.Sets.known.Goals as goal
 
 pub returns-then-are_equal : goal.returns-then-are_equal

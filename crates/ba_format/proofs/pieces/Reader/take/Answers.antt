@@ -1,10 +1,10 @@
 use Rattle.std.proofs.Common.{◌≡◌, ◌∙◌, ◌++◌, Result, Err, MatchResult, sym, ap, subst, rules}
 use Rattle.std.specs.List.{before_first}
-use Rattle.text_lines.specs.Cut.{is_newline, IsUnfinished}
+use Rattle.ba_format.specs.Cut.{is_newline, IsUnfinished}
 use Rattle.ba_format.specs.declared.parts.Limits.{Limits}
 use Rattle.ba_format.specs.declared.parts.ReadFault.{ReadFault}
 use Rattle.ba_format.specs.Pieces.{AreTaken, TellsFirstFault}
-use Rattle.text_lines.proofs.CutLemmas.{has_on, unfinished_on, before_on, after_on}
+use Rattle.ba_format.proofs.CutLemmas.{has_on, unfinished_on, before_on, after_on}
 use Rattle.ba_format.proofs.pieces.Reader.take.Goals as goal
 
 pub returns-in_default-clause-taken : goal.returns-in_default-clause-taken

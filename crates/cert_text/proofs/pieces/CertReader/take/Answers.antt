@@ -1,8 +1,8 @@
 use Rattle.std.proofs.Common.{◌≡◌, ◌∙◌, ◌++◌, Result, Err, MatchResult, sym, subst, rules}
 use Rattle.cert_text.specs.declared.faults.CertReadFault.{CertReadFault}
-use Rattle.text_lines.specs.Cut.{IsUnfinished, IsLineCut}
+use Rattle.ba_format.specs.Cut.{IsUnfinished, IsLineCut}
 use Rattle.cert_text.specs.Pieces.{AreCertLinesTaken, TellsFirstCertFault}
-use Rattle.text_lines.proofs.CutLemmas.{unfinished_on, cut_on}
+use Rattle.ba_format.proofs.CutLemmas.{unfinished_on, cut_on}
 use Rattle.cert_text.proofs.pieces.CertReader.take.Goals as goal
 
 pub returns-in_default-clause-taken : goal.returns-in_default-clause-taken

@@ -1,5 +1,5 @@
 use Rattle.std.proofs.Common.{◌∙◌, [], sym, ap, subst, append-nil}
-use Rattle.text_lines.specs.Cut.{IsUnfinished}
+use Rattle.ba_format.specs.Cut.{IsUnfinished}
 use Rattle.cert_text.specs.Grammar.{reading}
 use Rattle.cert_text.specs.Pieces.{AreCertLinesTaken, HasCertComeTo}
 use Rattle.cert_text.proofs.pieces.CertReader.told.Goals as goal

@@ -1,7 +1,7 @@
 use Rattle.std.proofs.Common.{◌≡◌, ◌&&◌, sym, ap, ◌∙◌}
 use Rattle.std.proofs.lemmas.Bool.{and_parts}
 use Rattle.auto_core.specs.Rows.{bit_of}
-use Rattle.row_steps.proofs.WordLemmas.{first_cell}
+use Rattle.bit_rows.proofs.WordLemmas.{first_cell}
 use Rattle.look_round.proofs.answering.Answering.keep_answering.Goals as goal
 
 pub returns-then-has_row : goal.returns-then-has_row

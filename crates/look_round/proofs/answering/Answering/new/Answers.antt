@@ -17,7 +17,15 @@ loop-t-init g c =
       omega (arith, kept, c.states-count.ensures.count),
       λ p p_in. absurd (omega arith),
       subst (AreReplyLists M ok c.args.automaton.now.states) (sym e.lists) c.in_ok-lists.ensures,
+      c.in_ok-arrivals.ensures.labels,
+      c.in_ok-arrivals.ensures.width,
     )
+
+pub refresh-requires-clause-like_labels : goal.refresh-requires-clause-like_labels
+refresh-requires-clause-like_labels g c = c.loop-t.invariant.4
+
+pub refresh-requires-clause-like_width : goal.refresh-requires-clause-like_width
+refresh-requires-clause-like_width g c = c.loop-t.invariant.5
 
 pub loop-t-preserved : goal.loop-t-preserved
 loop-t-preserved g c =
@@ -35,6 +43,8 @@ loop-t-preserved g c =
         | inr apart ↦ answers_kept M ok W c.loop-t.made c.refresh.new.self p e.labels e.width (λ x x_in. e.others p x x_in apart) (h.2 p (omega arith) (omega arith))
       ],
       subst (AreReplyLists M ok c.args.automaton.now.states) (sym e.lists) h.3,
+      h.4 ∙ sym e.labels,
+      h.5 ∙ sym e.width,
     )
 
 pub returns : goal.returns

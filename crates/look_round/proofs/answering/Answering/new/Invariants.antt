@@ -10,3 +10,5 @@ invariant-loop-t g l =
     × (l.made.kept ≤ l.automaton.states)
     × ((p : ℕ) → p < l.t → p < l.made.kept → IsRowOfAnswers (g.S.Side.goes l.side l.automaton) (g.S.Side.matches l.side l.automaton) (Holds l.rel.pairs) l.made p)
     × AreReplyLists (g.S.Side.goes l.side l.automaton) (g.S.Side.matches l.side l.automaton) l.automaton.states l.made.lists
+    × (l.arrivals.labels ≡ l.made.labels)
+    × (l.arrivals.width ≡ l.made.width)

@@ -1,6 +1,6 @@
 use Rattle.std.proofs.Common.{[], subst, arith}
 use Rattle.auto_core.specs.Outcome.{At}
-use Rattle.search_laws.proofs.PlaceLemmas.{at_within}
+use Rattle.auto_laws.proofs.PlaceLemmas.{at_within}
 use Rattle.shared_graphs.specs.GraphPairs.{FitsCovering}
 use Rattle.shared_graphs.proofs.GraphsLemmas.{told_none}
 use Rattle.shared_graphs.proofs.coverings.Coverings.new.Goals as goal

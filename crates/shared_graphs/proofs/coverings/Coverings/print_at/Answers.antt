@@ -1,5 +1,5 @@
 use Rattle.std.proofs.Common.{◌<◌, length, rules}
-use Rattle.search_laws.proofs.PlaceLemmas.{read_at}
+use Rattle.auto_laws.proofs.PlaceLemmas.{read_at}
 use Rattle.shared_graphs.proofs.coverings.Coverings.print_at.Goals as goal
 
 pub returns : goal.returns

@@ -1,6 +1,6 @@
 use Rattle.std.proofs.Common.{[], ◌∙◌, subst, arith}
 use Rattle.auto_core.specs.Outcome.{At}
-use Rattle.search_laws.proofs.PlaceLemmas.{at_within}
+use Rattle.auto_laws.proofs.PlaceLemmas.{at_within}
 use Rattle.shared_graphs.proofs.graph_pairs.GraphPairs.new.Goals as goal
 
 pub returns : goal.returns

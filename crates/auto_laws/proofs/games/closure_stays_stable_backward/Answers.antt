@@ -1,0 +1,5 @@
+use Rattle.auto_laws.proofs.AppliedLemmas.{closure_stays_stable_backward as law}
+use Rattle.auto_laws.proofs.games.closure_stays_stable_backward.Goals as goal
+
+pub returns : goal.returns
+returns c = law

@@ -1,0 +1,5 @@
+use Rattle.auto_laws.proofs.OneLetterLemmas.{one_letter_relates_pairs as law}
+use Rattle.auto_laws.proofs.greatest.one_letter_relates_pairs.Goals as goal
+
+pub returns : goal.returns
+returns c = law

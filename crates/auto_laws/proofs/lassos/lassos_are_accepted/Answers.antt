@@ -1,0 +1,5 @@
+use Rattle.auto_laws.proofs.AppliedGraphLemmas.{lassos_are_accepted as law}
+use Rattle.auto_laws.proofs.lassos.lassos_are_accepted.Goals as goal
+
+pub returns : goal.returns
+returns c = law

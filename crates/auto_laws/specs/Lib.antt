@@ -1,0 +1,13 @@
+pub mod Paths
+pub mod Pumping
+pub mod Transfer
+pub mod Games
+pub mod Graphs
+pub mod Lassos
+pub mod Closed
+pub mod Standing
+pub mod Outcomes
+pub mod PairOutcomes
+pub mod Bounds
+pub mod Greatest
+pub mod OneLetter

@@ -1,0 +1,10 @@
+pub mod LaneLemmas
+pub mod EqualLemmas
+pub mod WordLemmas
+pub mod MeetLemmas
+pub mod MarkLemmas
+pub mod SquareWordLemmas
+pub mod MaskLemmas
+pub mod SquareLemmas
+pub mod TransposedLemmas
+pub mod LoopLemmas

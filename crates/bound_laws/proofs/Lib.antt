@@ -1,4 +1,0 @@
-pub mod CountLemmas
-pub mod DecisionLemmas
-pub mod CodeLemmas
-pub mod BoundLemmas

@@ -1,0 +1,6 @@
+use Rattle.cert_text.proofs.AdmittedLemmas.{own_lines_are_admitted}
+use Rattle.cert_text.proofs.CertLemmas.{certs}
+use Rattle.cert_text.proofs.fault_laws.a_certificates_lines_are_admitted.Goals as goal
+
+pub returns : goal.returns
+returns c = own_lines_are_admitted certs

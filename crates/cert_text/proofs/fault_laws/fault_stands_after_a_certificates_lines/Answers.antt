@@ -1,0 +1,6 @@
+use Rattle.cert_text.proofs.PlaceLemmas.{stands_later}
+use Rattle.cert_text.proofs.CertLemmas.{certs}
+use Rattle.cert_text.proofs.fault_laws.fault_stands_after_a_certificates_lines.Goals as goal
+
+pub returns : goal.returns
+returns c = stands_later certs

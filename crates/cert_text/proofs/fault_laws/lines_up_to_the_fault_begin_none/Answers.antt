@@ -1,0 +1,6 @@
+use Rattle.cert_text.proofs.PlaceLemmas.{begin_none}
+use Rattle.cert_text.proofs.CertLemmas.{certs}
+use Rattle.cert_text.proofs.fault_laws.lines_up_to_the_fault_begin_none.Goals as goal
+
+pub returns : goal.returns
+returns c = begin_none certs

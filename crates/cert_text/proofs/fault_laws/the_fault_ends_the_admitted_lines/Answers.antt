@@ -1,0 +1,6 @@
+use Rattle.cert_text.proofs.AdmittedLemmas.{fault_ends_admitted}
+use Rattle.cert_text.proofs.CertLemmas.{certs}
+use Rattle.cert_text.proofs.fault_laws.the_fault_ends_the_admitted_lines.Goals as goal
+
+pub returns : goal.returns
+returns c = fault_ends_admitted certs

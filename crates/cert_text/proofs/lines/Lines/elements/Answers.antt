@@ -1,0 +1,18 @@
+use Rattle.std.proofs.lemmas.Result.{err_from_is_err_and}
+use Rattle.std.proofs.Common.{List, []}
+use Rattle.cert_value.specs.declared.keywords.Keyword.TheVariants as keyword
+use Rattle.cert_value.specs.declared.types.Element.{Element}
+use Rattle.cert_line.specs.Lines.{number_in}
+use Rattle.cert_text.specs.Grammar.{next_line, read_elements}
+use Rattle.cert_text.proofs.LinesLeftLemmas.{then_reads, first_stops}
+use Rattle.cert_text.proofs.lines.Lines.elements.Goals as goal
+
+pub returns-in_err-count : goal.returns-in_err-count
+returns-in_err-count g c =
+    let p = err_from_is_err_and c.from_residual.result c.from_residual.ensures.1 in
+    rw (p.1, p.2)
+    (first_stops {A = (List Element)} (next_line (number_in keyword.Elements)) (λ next n. read_elements c.args.mode n [] next) c.args.self.now c.number.new.self c.number.new.self c.in_err-count.field-0.0 c.in_err-count.ensures)
+
+pub returns : goal.returns
+returns g c =
+    then_reads (next_line (number_in keyword.Elements)) (λ next n. read_elements c.args.mode n [] next) c.args.self.now c.number.new.self c.so_many_elements.new.self c.in_ok-count.count c.so_many_elements.result c.in_ok-count.ensures c.so_many_elements.ensures

@@ -1,2 +1,0 @@
-pub mod ReadsLemmas
-pub mod TextLemmas

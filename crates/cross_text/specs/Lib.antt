@@ -1,4 +1,0 @@
-pub mod Grammar
-pub mod Law
-pub mod Reads
-pub mod Text

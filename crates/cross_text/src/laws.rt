@@ -1,9 +1,0 @@
-//! The law of texts: the contract of a function that does nothing.
-
-ghost use Rattle.cross_text.specs.Law.{OneCrossText};
-
-/// No text of a cross relation is a proper front of another's, and different cross relations have
-/// different texts.
-pub fn one_cross_text()
-    ensures { OneCrossText }
-{}

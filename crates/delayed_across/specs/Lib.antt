@@ -1,0 +1,5 @@
+pub mod Answered
+pub mod Listed
+pub mod Reached
+pub mod Refused
+pub mod Laws

@@ -1,5 +1,0 @@
-use Rattle.fault_laws.proofs.EndlessLemmas.{cross_endless_is_admitted as law}
-use Rattle.fault_laws.proofs.laws.admitted_lines_may_begin_no_cross_text.Goals as goal
-
-pub returns : goal.returns
-returns c = law

@@ -1,6 +1,0 @@
-use Rattle.fault_laws.proofs.TextLemmas.{is_text_or_has_fault}
-use Rattle.fault_laws.proofs.CrossLemmas.{crosses}
-use Rattle.fault_laws.proofs.laws.bytes_are_a_cross_text_or_have_a_fault.Goals as goal
-
-pub returns : goal.returns
-returns c = is_text_or_has_fault crosses

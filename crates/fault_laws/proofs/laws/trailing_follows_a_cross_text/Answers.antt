@@ -1,6 +1,0 @@
-use Rattle.fault_laws.proofs.AdmittedLemmas.{trailing_follows_text}
-use Rattle.fault_laws.proofs.CrossLemmas.{crosses}
-use Rattle.fault_laws.proofs.laws.trailing_follows_a_cross_text.Goals as goal
-
-pub returns : goal.returns
-returns c = trailing_follows_text crosses

@@ -1,6 +1,0 @@
-use Rattle.fault_laws.proofs.AdmittedLemmas.{truncated_at_the_end}
-use Rattle.fault_laws.proofs.CertLemmas.{certs}
-use Rattle.fault_laws.proofs.laws.truncated_stands_at_the_end.Goals as goal
-
-pub returns : goal.returns
-returns c = truncated_at_the_end certs

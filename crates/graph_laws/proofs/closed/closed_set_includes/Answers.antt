@@ -1,5 +1,0 @@
-use Rattle.graph_laws.proofs.ClosedLemmas.{closed_set_includes as law}
-use Rattle.graph_laws.proofs.closed.closed_set_includes.Goals as goal
-
-pub returns : goal.returns
-returns c = law

@@ -1,5 +1,0 @@
-use Rattle.graph_laws.proofs.OriginLemmas.{origins_have_arcs as law}
-use Rattle.graph_laws.proofs.closed.origins_have_arcs.Goals as goal
-
-pub returns : goal.returns
-returns c = law

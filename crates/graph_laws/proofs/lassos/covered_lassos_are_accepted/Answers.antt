@@ -1,5 +1,0 @@
-use Rattle.graph_laws.proofs.AppliedLemmas.{covered_lassos_are_accepted as law}
-use Rattle.graph_laws.proofs.lassos.covered_lassos_are_accepted.Goals as goal
-
-pub returns : goal.returns
-returns c = law

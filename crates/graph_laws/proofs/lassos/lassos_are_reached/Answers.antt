@@ -1,5 +1,0 @@
-use Rattle.graph_laws.proofs.AppliedLemmas.{lassos_are_reached as law}
-use Rattle.graph_laws.proofs.lassos.lassos_are_reached.Goals as goal
-
-pub returns : goal.returns
-returns c = law

@@ -1,5 +1,0 @@
-use Rattle.graph_laws.proofs.StandingLemmas.{tables_serve_as_graphs as law}
-use Rattle.graph_laws.proofs.standing.tables_serve_as_graphs.Goals as goal
-
-pub returns : goal.returns
-returns c = law

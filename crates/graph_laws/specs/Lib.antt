@@ -1,4 +1,0 @@
-pub mod Graphs
-pub mod Lassos
-pub mod Closed
-pub mod Standing

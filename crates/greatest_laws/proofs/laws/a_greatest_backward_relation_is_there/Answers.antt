@@ -1,5 +1,0 @@
-use Rattle.greatest_laws.proofs.GreatestLemmas.{greatest_backward_is_there as law}
-use Rattle.greatest_laws.proofs.laws.a_greatest_backward_relation_is_there.Goals as goal
-
-pub returns : goal.returns
-returns c = law

@@ -1,5 +1,0 @@
-use Rattle.greatest_laws.proofs.GreatestLemmas.{greatest_forward_is_there as law}
-use Rattle.greatest_laws.proofs.laws.a_greatest_forward_relation_is_there.Goals as goal
-
-pub returns : goal.returns
-returns c = law

@@ -1,5 +1,0 @@
-use Rattle.greatest_laws.proofs.GreatestLemmas.{greatest_across_is_there as law}
-use Rattle.greatest_laws.proofs.laws.a_greatest_relation_across_is_there.Goals as goal
-
-pub returns : goal.returns
-returns c = law

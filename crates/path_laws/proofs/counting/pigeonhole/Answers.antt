@@ -1,5 +1,0 @@
-use Rattle.path_laws.proofs.PumpingLemmas.{pigeonhole as two_places}
-use Rattle.path_laws.proofs.counting.pigeonhole.Goals as goal
-
-pub returns : goal.returns
-returns c = two_places

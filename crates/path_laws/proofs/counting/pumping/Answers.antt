@@ -1,5 +1,0 @@
-use Rattle.path_laws.proofs.PumpingLemmas.{pumping as accepted}
-use Rattle.path_laws.proofs.counting.pumping.Goals as goal
-
-pub returns : goal.returns
-returns c = accepted

@@ -1,5 +1,0 @@
-use Rattle.path_laws.proofs.PumpingLemmas.{reblock}
-use Rattle.path_laws.proofs.counting.reblocking.Goals as goal
-
-pub returns : goal.returns
-returns c = reblock

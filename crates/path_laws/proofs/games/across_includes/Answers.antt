@@ -1,5 +1,0 @@
-use Rattle.path_laws.proofs.AppliedLemmas.{across_includes as law}
-use Rattle.path_laws.proofs.games.across_includes.Goals as goal
-
-pub returns : goal.returns
-returns c = law

@@ -1,5 +1,0 @@
-use Rattle.path_laws.proofs.AppliedLemmas.{closure_stays_stable_backward as law}
-use Rattle.path_laws.proofs.games.closure_stays_stable_backward.Goals as goal
-
-pub returns : goal.returns
-returns c = law

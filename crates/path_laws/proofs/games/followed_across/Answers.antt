@@ -1,5 +1,0 @@
-use Rattle.path_laws.proofs.AppliedLemmas.{followed_across as law}
-use Rattle.path_laws.proofs.games.followed_across.Goals as goal
-
-pub returns : goal.returns
-returns c = law

@@ -1,5 +1,0 @@
-use Rattle.path_laws.proofs.AppliedLemmas.{followed_backward as law}
-use Rattle.path_laws.proofs.games.followed_backward.Goals as goal
-
-pub returns : goal.returns
-returns c = law

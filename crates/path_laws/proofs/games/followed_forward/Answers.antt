@@ -1,5 +1,0 @@
-use Rattle.path_laws.proofs.AppliedLemmas.{followed_forward as law}
-use Rattle.path_laws.proofs.games.followed_forward.Goals as goal
-
-pub returns : goal.returns
-returns c = law

@@ -1,5 +1,0 @@
-use Rattle.path_laws.proofs.AppliedLemmas.{followed_to_the_end as law}
-use Rattle.path_laws.proofs.games.followed_to_the_end.Goals as goal
-
-pub returns : goal.returns
-returns c = law

@@ -1,5 +1,0 @@
-use Rattle.path_laws.proofs.AppliedLemmas.{strict_steps_are_few as law}
-use Rattle.path_laws.proofs.games.strict_steps_are_few.Goals as goal
-
-pub returns : goal.returns
-returns c = law

@@ -1,6 +1,0 @@
-use Rattle.auto_core.specs.Game.{BackwardMoves}
-use Rattle.path_laws.proofs.GameLemmas.{extend, tells_backward}
-use Rattle.path_laws.proofs.runs.backward_paths_extend.Goals as goal
-
-pub returns : goal.returns
-returns c = λ A. extend (BackwardMoves A) (tells_backward A)

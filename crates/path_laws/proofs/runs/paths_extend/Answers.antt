@@ -1,6 +1,0 @@
-use Rattle.auto_core.specs.Automaton.{Moves}
-use Rattle.path_laws.proofs.GameLemmas.{extend, tells_forward}
-use Rattle.path_laws.proofs.runs.paths_extend.Goals as goal
-
-pub returns : goal.returns
-returns c = λ A. extend (Moves A) (tells_forward A)

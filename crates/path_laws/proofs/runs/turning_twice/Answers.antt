@@ -1,5 +1,0 @@
-use Rattle.path_laws.proofs.TurnLemmas.{end_of-turned, turned-turned}
-use Rattle.path_laws.proofs.runs.turning_twice.Goals as goal
-
-pub returns : goal.returns
-returns c = λ p ps. (end_of-turned p ps, turned-turned p ps)

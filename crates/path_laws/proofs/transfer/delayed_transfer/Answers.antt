@@ -1,5 +1,0 @@
-use Rattle.path_laws.proofs.TransferLemmas.{delayed_transfer as accepted}
-use Rattle.path_laws.proofs.transfer.delayed_transfer.Goals as goal
-
-pub returns : goal.returns
-returns c = accepted

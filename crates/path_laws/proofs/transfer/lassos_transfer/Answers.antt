@@ -1,5 +1,0 @@
-use Rattle.path_laws.proofs.TransferLemmas.{transfer}
-use Rattle.path_laws.proofs.transfer.lassos_transfer.Goals as goal
-
-pub returns : goal.returns
-returns c = transfer

@@ -1,5 +1,0 @@
-use Rattle.path_laws.proofs.TransferLemmas.{transfer_words}
-use Rattle.path_laws.proofs.transfer.words_transfer.Goals as goal
-
-pub returns : goal.returns
-returns c = transfer_words

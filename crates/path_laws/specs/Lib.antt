@@ -1,4 +1,0 @@
-pub mod Paths
-pub mod Pumping
-pub mod Transfer
-pub mod Games

@@ -1,0 +1,3 @@
+pub mod ProofTextLemmas
+pub mod ProofLemmas
+pub mod ProofHeads

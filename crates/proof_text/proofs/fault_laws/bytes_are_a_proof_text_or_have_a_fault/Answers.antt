@@ -1,0 +1,6 @@
+use Rattle.cert_text.proofs.TextLemmas.{is_text_or_has_fault}
+use Rattle.proof_text.proofs.ProofLemmas.{proofs}
+use Rattle.proof_text.proofs.fault_laws.bytes_are_a_proof_text_or_have_a_fault.Goals as goal
+
+pub returns : goal.returns
+returns c = is_text_or_has_fault proofs

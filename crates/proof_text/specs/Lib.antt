@@ -1,0 +1,5 @@
+pub mod ProofText
+pub mod ProofGrammar
+pub mod ProofLaw
+pub mod Proofs
+pub mod ProofAdmitted

@@ -1,6 +1,0 @@
-use Rattle.std.proofs.Common.{◌≡◌, ◌++◌, take}
-use Rattle.rabit_replies.specs.Printed.{further_letters}
-use Rattle.rabit_replies.proofs.word_texts.push_further.Given as goal
-
-abbrev pub invariant-loop-letter : goal.invariant-loop-letter
-invariant-loop-letter l = l.out ≡ l.fn.out ++ further_letters l.labels (take l.letter-index l.word)

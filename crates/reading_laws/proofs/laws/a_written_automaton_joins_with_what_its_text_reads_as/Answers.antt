@@ -1,5 +1,0 @@
-use Rattle.reading_laws.proofs.BackLemmas.{written_joins as law}
-use Rattle.reading_laws.proofs.laws.a_written_automaton_joins_with_what_its_text_reads_as.Goals as goal
-
-pub returns : goal.returns
-returns c = law

@@ -1,5 +1,0 @@
-use Rattle.reading_laws.proofs.TurnedLemmas.{join_order_does_not_matter as law}
-use Rattle.reading_laws.proofs.laws.the_order_of_a_join_does_not_matter.Goals as goal
-
-pub returns : goal.returns
-returns c = law

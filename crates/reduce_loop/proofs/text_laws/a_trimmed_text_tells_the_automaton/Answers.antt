@@ -1,0 +1,5 @@
+use Rattle.reduce_loop.proofs.TellLemmas.{trimmed_text_tells as law}
+use Rattle.reduce_loop.proofs.text_laws.a_trimmed_text_tells_the_automaton.Goals as goal
+
+pub returns : goal.returns
+returns c = law

@@ -1,5 +1,0 @@
-use Rattle.relation_rows.specs.Rows.{HoldsFrom, AreRows}
-use Rattle.relation_rows.proofs.rows.rows_of.Given as goal
-
-abbrev pub invariant-loop-left : goal.invariant-loop-left
-invariant-loop-left l = AreRows (HoldsFrom l.rel.pairs l.offset l.rights) l.left l.rows

@@ -1,5 +1,0 @@
-pub mod LaneLemmas
-pub mod EqualLemmas
-pub mod WordLemmas
-pub mod MeetLemmas
-pub mod MarkLemmas

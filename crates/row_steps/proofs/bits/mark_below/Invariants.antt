@@ -1,6 +1,0 @@
-use Rattle.std.proofs.Common.{ℕ, ◌<◌, ◌↔◌, ◌⊎◌}
-use Rattle.auto_core.specs.Rows.{HasBit}
-use Rattle.row_steps.proofs.bits.mark_below.Given as goal
-
-abbrev pub invariant-loop-i : goal.invariant-loop-i
-invariant-loop-i l = (k : ℕ) → HasBit l.row k ↔ ((k < l.i) ⊎ HasBit l.fn.row k)

@@ -1,5 +1,0 @@
-use Rattle.search_laws.proofs.OutcomeLemmas.{apart_separates as law}
-use Rattle.search_laws.proofs.outcomes.apart_separates.Goals as goal
-
-pub returns : goal.returns
-returns c = law

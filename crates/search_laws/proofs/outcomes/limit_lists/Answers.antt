@@ -1,5 +1,0 @@
-use Rattle.search_laws.proofs.OutcomeLemmas.{limit_lists as law}
-use Rattle.search_laws.proofs.outcomes.limit_lists.Goals as goal
-
-pub returns : goal.returns
-returns c = law

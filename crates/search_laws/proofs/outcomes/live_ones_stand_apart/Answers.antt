@@ -1,5 +1,0 @@
-use Rattle.search_laws.proofs.OutcomeLemmas.{live_ones_stand_apart as law}
-use Rattle.search_laws.proofs.outcomes.live_ones_stand_apart.Goals as goal
-
-pub returns : goal.returns
-returns c = law

@@ -1,5 +1,0 @@
-use Rattle.search_laws.proofs.OutcomeLemmas.{one_outcome as law}
-use Rattle.search_laws.proofs.outcomes.one_outcome.Goals as goal
-
-pub returns : goal.returns
-returns c = law

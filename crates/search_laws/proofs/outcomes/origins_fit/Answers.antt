@@ -1,5 +1,0 @@
-use Rattle.search_laws.proofs.OutcomeLemmas.{origins_fit as law}
-use Rattle.search_laws.proofs.outcomes.origins_fit.Goals as goal
-
-pub returns : goal.returns
-returns c = law

@@ -1,5 +1,0 @@
-use Rattle.search_laws.proofs.PairOutcomeLemmas.{apart_separates_word as law}
-use Rattle.search_laws.proofs.pairs.apart_separates_word.Goals as goal
-
-pub returns : goal.returns
-returns c = law

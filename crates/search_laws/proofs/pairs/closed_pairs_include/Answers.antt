@@ -1,5 +1,0 @@
-use Rattle.search_laws.proofs.ClosedPairLemmas.{closed_pairs_include as law}
-use Rattle.search_laws.proofs.pairs.closed_pairs_include.Goals as goal
-
-pub returns : goal.returns
-returns c = law

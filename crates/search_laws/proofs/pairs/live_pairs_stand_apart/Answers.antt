@@ -1,5 +1,0 @@
-use Rattle.search_laws.proofs.PairOutcomeLemmas.{live_pairs_stand_apart as law}
-use Rattle.search_laws.proofs.pairs.live_pairs_stand_apart.Goals as goal
-
-pub returns : goal.returns
-returns c = law

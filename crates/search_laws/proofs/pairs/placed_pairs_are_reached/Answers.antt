@@ -1,5 +1,0 @@
-use Rattle.search_laws.proofs.PairEntryLemmas.{placed_pairs_are_reached as law}
-use Rattle.search_laws.proofs.pairs.placed_pairs_are_reached.Goals as goal
-
-pub returns : goal.returns
-returns c = law

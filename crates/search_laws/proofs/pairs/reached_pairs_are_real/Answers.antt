@@ -1,5 +1,0 @@
-use Rattle.search_laws.proofs.PairLemmas.{reached_pairs_are_real as law}
-use Rattle.search_laws.proofs.pairs.reached_pairs_are_real.Goals as goal
-
-pub returns : goal.returns
-returns c = law

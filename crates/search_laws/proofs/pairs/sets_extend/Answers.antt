@@ -1,5 +1,0 @@
-use Rattle.search_laws.proofs.PairLemmas.{sets_extend as law}
-use Rattle.search_laws.proofs.pairs.sets_extend.Goals as goal
-
-pub returns : goal.returns
-returns c = law

@@ -1,4 +1,0 @@
-pub mod MapLemmas
-pub mod SameLemmas
-pub mod StateLemmas
-pub mod TellLemmas

@@ -1,4 +1,0 @@
-pub mod WordLemmas
-pub mod MaskLemmas
-pub mod SquareLemmas
-pub mod TableLemmas

@@ -1,4 +1,0 @@
-pub mod GatherLemmas
-pub mod RunLemmas
-pub mod CycleLemmas
-pub mod UsefulLemmas

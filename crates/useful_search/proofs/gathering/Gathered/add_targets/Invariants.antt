@@ -1,7 +1,0 @@
-use Rattle.auto_core.specs.Automaton.{trans_at}
-use Rattle.useful_search.specs.Gathering.{HasGained}
-use Rattle.useful_search.proofs.GatherLemmas.{Named}
-use Rattle.useful_search.proofs.gathering.Gathered.add_targets.Given as goal
-
-abbrev pub invariant-loop-t : goal.invariant-loop-t
-invariant-loop-t l = HasGained (Named (λ t. (trans_at l.automaton t).target) l.initial.t l.t) l.initial.self l.self

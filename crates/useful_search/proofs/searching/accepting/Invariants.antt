@@ -1,7 +1,0 @@
-use Rattle.std.proofs.Common.{◌<◌}
-use Rattle.auto_core.specs.Automaton.{IsAccepting}
-use Rattle.useful_search.specs.Gathering.{HoldsJust}
-use Rattle.useful_search.proofs.searching.accepting.Given as goal
-
-abbrev pub invariant-loop-state : goal.invariant-loop-state
-invariant-loop-state l = HoldsJust l.automaton.states (λ q. (q < l.state) × IsAccepting l.automaton q) l.gathered

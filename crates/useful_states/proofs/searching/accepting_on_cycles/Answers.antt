@@ -1,0 +1,34 @@
+use Rattle.std.proofs.Common.{ℕ, ◌+◌, ◌<◌, sym, ◌∙◌, subst, arith}
+use Rattle.std.proofs.lemmas.Bool.{false≢true}
+use Rattle.auto_core.specs.Useful.{IsGoal}
+use Rattle.auto_core.specs.declared.parts.Mode.TheVariants.{Buchi}
+use Rattle.useful_states.specs.declared.gathering.Gathered.{Gathered}
+use Rattle.useful_states.specs.Gathering.{HoldsJust}
+use Rattle.useful_states.proofs.GatherLemmas.{held_none, held_more, held_same, held_all}
+use Rattle.useful_states.proofs.UsefulLemmas.{accepting_below}
+use Rattle.useful_states.proofs.searching.accepting_on_cycles.Goals as goal
+use Rattle.useful_states.proofs.searching.accepting_on_cycles.Goals.{then-accepts_again+in_ok-add, else-accepts_again}
+
+pub loop-state-init : goal.loop-state-init
+loop-state-init c =
+    let P = IsGoal c.args.automaton.now Buchi in
+    let Q : ℕ → Type 0 = λ n. HoldsJust n (λ q. ⊥) c.in_ok-gathered.gathered in
+    held_none P c.args.automaton.now.states (λ q. ⊥) c.in_ok-gathered.gathered (λ q h. h) (subst Q c.states.ensures.count c.in_ok-gathered.ensures)
+
+pub loop-state-preserved : goal.loop-state-preserved
+loop-state-preserved c =
+    let P = IsGoal c.args.automaton.now Buchi in
+    let states : ℕ = c.args.automaton.now.states in
+    let n : ℕ = c.loop-state.state in
+    let g = c.loop-state.gathered in
+    let Q : Gathered → Type 0 = λ h. HoldsJust states (λ q. (q < n + 1) × P q) h in
+    elim c.if-accepts_again.branch as (λ _. Q c.if-accepts_again.gathered) [
+      | then-accepts_again+in_ok-add w ↦ subst Q (sym w.gathered-is) (held_more P states n g w.add.new.self c.loop-state.invariant (c.accepts_again.ensures.0 w.if-accepts_again.true) w.in_ok-add.ensures)
+      | else-accepts_again w ↦ subst Q (sym w.gathered-is) (held_same P states n g c.loop-state.invariant (λ is. false≢true (sym w.if-accepts_again.false ∙ c.accepts_again.ensures.1 is)))
+    ]
+
+pub returns : goal.returns
+returns c =
+    let A = c.args.automaton.now in
+    held_all (IsGoal A Buchi) A.states c.loop-state.state c.loop-state.gathered
+    (λ q is. let below = accepting_below A c.states-state-end.ensures.valid q is.0 in omega (arith, c.loop-state-test.false, c.states-state-end.ensures.count)) c.loop-state.invariant
