@@ -29,7 +29,11 @@ fn round_of(
     p: u32,
     q: u32,
 ) -> Result<Option<bool>, Fail> {
-    let mut rel = Rel::empty(alloc, automaton.states())?;
+    let states = automaton.states();
+    if p >= states || q >= states || look < 1 || look > 6 {
+        return Ok(None);
+    }
+    let mut rel = Rel::empty(alloc, states)?;
     for (left, right) in pairs {
         if *left < rel.size() {
             if *right < rel.size() {
@@ -38,9 +42,7 @@ fn round_of(
         }
     }
     let mut scratch = Scratch::new(alloc, automaton, look)?;
-    let in_range = p < automaton.states() && q < automaton.states();
-    let fits = 1 <= look && look <= 6 && rel.size() == automaton.states();
-    if in_range && fits {
+    if rel.size() == states {
         return Ok(Some(round_holds(&Forward, automaton, &rel, look, p, q, &mut scratch)));
     }
     Ok(None)

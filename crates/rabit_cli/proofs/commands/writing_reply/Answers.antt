@@ -17,8 +17,10 @@ pub returns-in-Include : goal.returns-in-Include
 returns-in-Include c =
     let values = c.args.values.now in
     let terms = terms_by c.in-Include.mode c.in-Include.look c.in-Include.limit c.in-Include.letters in
+    let named : IfOk c.reply.result (λ (r : Reply). MeansInclude c.as_str.result.now terms values r) =
+    subst (λ t. IfOk c.reply.result (λ (r : Reply). MeansInclude c.as_str.result.now t values r)) c.terms_named-terms.ensures c.reply.ensures in
     subst (λ q. IfOk c.reply.result (Means (Some (told q)) values)) (sym c.in-Include.is)
-    (subst (λ name. IfOk c.reply.result (λ (r : Reply). MeansInclude name terms values r)) c.as_str.ensures.value c.reply.ensures)
+    (subst (λ name. IfOk c.reply.result (λ (r : Reply). MeansInclude name terms values r)) c.as_str.ensures.value named)
 
 pub returns-in-Upgrade : goal.returns-in-Upgrade
 returns-in-Upgrade c =
