@@ -21,4 +21,6 @@ mod words;
 
 pub use checking::check;
 pub use faults::Verdict;
+pub use inclusion::check_inclusion;
+pub use lassos::check_lasso;
 pub use log_check::{CheckFault, Refusal};

@@ -37,26 +37,30 @@ fn copied(alloc: Global, automaton: &Auto) -> Result<Auto, Memory>
     cut(alloc, automaton, &[])
 }
 
-/// The automaton that the first log leads to.
-fn first_end(
+/// The automaton that the first log leads to, or the first rule that is broken, or want of memory;
+/// its first step is the item with this number.
+pub fn first_end(
     alloc: Global,
     mode: Mode,
     automaton: &Auto,
+    item: u32,
     steps: &[FirstStep],
 ) -> Result<Auto, CheckFault>
     requires formed { list_all is_first_step steps.now ≡ true }
     requires few { length steps.now < 10 ^ 9 }
-    ensures { TellsLog FirstStep (first_rules mode) automaton.now 1 steps.now result }
+    requires low { item ≤ 10 ^ 9 }
+    ensures { TellsLog FirstStep (first_rules mode) automaton.now item steps.now result }
 {
     let mut end = copied(alloc, automaton)?;
     for i in 0..steps.len() {
-        end = first_step(alloc, mode, &end, 1 + i as u32, &steps[i])?;
+        end = first_step(alloc, mode, &end, item + i as u32, &steps[i])?;
     }
     Ok(end)
 }
 
-/// The automaton that the second log leads to; its first step is the item with this number.
-fn second_end(
+/// The automaton that the second log leads to, or the first rule that is broken, or want of memory;
+/// its first step is the item with this number.
+pub fn second_end(
     alloc: Global,
     automaton: &Auto,
     item: u32,
@@ -93,7 +97,7 @@ pub fn log_ends(
     requires few_second { length seconds.now < 10 ^ 9 }
     ensures tells { TellsBothLogs mode first.now second.now firsts.now seconds.now result }
 {
-    let first = first_end(alloc, mode, first, firsts)?;
+    let first = first_end(alloc, mode, first, 1, firsts)?;
     let second = second_end(alloc, second, 1 + firsts.len() as u32, seconds)?;
     Ok(Ends { first, second })
 }

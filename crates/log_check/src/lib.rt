@@ -19,7 +19,8 @@ mod stability;
 
 pub use blocks::{is_block_below, relation_of};
 pub use copying::copied_numbers;
-pub use ends::{Ends, log_ends};
+pub use ends::{Ends, first_end, log_ends, second_end};
 pub use faults::{CheckFault, Refusal};
 pub use rows::rows_of;
+pub use shapes::{are_states, classes_for};
 pub use stability::is_stable;

@@ -8,7 +8,7 @@ use quotient::{ClassFault, Classes};
 use std::alloc::Global;
 
 /// Tells whether the numbers are those of states.
-pub(crate) fn are_states(automaton: &Auto, numbers: &[u32]) -> bool
+pub fn are_states(automaton: &Auto, numbers: &[u32]) -> bool
     ensures { IsTrue result ↔ AreStates automaton.now numbers.now }
 {
     let states = automaton.states();
@@ -32,7 +32,7 @@ pub(crate) fn is_look(look: u32) -> bool
 
 /// The classes with these numbers; None where there is not one for each state, or they are not in
 /// the order in which they appear.
-pub(crate) fn classes_for(
+pub fn classes_for(
     alloc: Global,
     automaton: &Auto,
     numbers: &[u32],

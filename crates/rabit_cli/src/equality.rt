@@ -221,6 +221,30 @@ fn first_apart<'a>(
     Ok(reply_with(Status::Refuted, text, puts))
 }
 
+/// The reply to the joined automata, for which this is the answer.
+fn of_answer<'a>(
+    alloc: Global,
+    certificate: &'a str,
+    converse_name: &'a str,
+    one: &Named,
+    two: &Named,
+    pair: &Joined,
+    cert: &Cert,
+) -> Result<Reply<'a>, Memory>
+    requires one { IsWithinLimits SECOND_LIMITS one.now }
+    requires two { IsWithinLimits SECOND_LIMITS two.now }
+    requires answer { IsAnswer pair.now (usual_terms Buchi) cert.now }
+    requires letters { HasLettersOf pair.now.labels cert.now.body }
+    ensures { IfOk result
+        (IsEqualReply certificate.entry.now converse_name.entry.now one.now two.now pair.now) }
+{
+    if is_no(&cert.body) {
+        first_apart(alloc, certificate, pair, cert)
+    } else {
+        of_both(alloc, certificate, converse_name, one, two, cert)
+    }
+}
+
 /// The reply to the joined automata. All that is needed is decided before anything is written.
 fn of_pair<'a>(
     alloc: Global,
@@ -236,11 +260,9 @@ fn of_pair<'a>(
     ensures { IfOk result
         (IsEqualReply certificate.entry.now converse_name.entry.now one.now two.now pair.now) }
 {
-    let cert = answered(alloc, pair)?;
-    if is_no(&cert.body) {
-        first_apart(alloc, certificate, pair, &cert)
-    } else {
-        of_both(alloc, certificate, converse_name, one, two, &cert)
+    match answered(alloc, pair) {
+        Ok(cert) => of_answer(alloc, certificate, converse_name, one, two, pair, &cert),
+        Err(refused) => Err(refused),
     }
 }
 

@@ -1,7 +1,10 @@
 //! `universal A U CERT`, with `--finite`
 
 ghost use Rattle.std.specs.Prelude.{◌≡◌, ◌≤◌, ℕ, List as Items, length, IfOk};
-ghost use Rattle.ba_format.specs.Reading.{IsWithinLimits};
+ghost use Rattle.ba_format.specs.Reading.{Reads, IsWithinLimits};
+ghost use Rattle.ba_format.specs.Joining.{IsJoined};
+ghost use Rattle.ba_format.specs.declared.parts.Named.{Named as ANamed};
+ghost use Rattle.decide.specs.Laws.{CanDecide};
 ghost use Rattle.ba_format.specs.Writing.{written};
 ghost use Rattle.rabit_frame.specs.Reading.{AreOfKinds, HasWritableLabels};
 ghost use Rattle.rabit_frame.specs.declared.files.TheConstants.{SECOND_LIMITS};
@@ -11,7 +14,7 @@ ghost use Rattle.rabit_cli.specs.Universal.{loops, all_loops, universality};
 use crate::joining::joined;
 use crate::properties::{decided, read_back};
 use auto_core::{Auto, List, Memory, Mode, Trans, of_parts};
-use ba_format::{Named, Texts};
+use ba_format::{Joined, Named, Texts};
 use rabit_frame::{Put, Reply, Value};
 use std::alloc::Global;
 
@@ -48,6 +51,21 @@ fn universal_text(alloc: Global, labels: &Texts) -> Result<List<u8>, Memory>
     ba_format::write(alloc, &made, labels)
 }
 
+/// What the made text reads as and the automaton, joined.
+fn pair_with_universal(alloc: Global, text: &[u8], one: &Named) -> Result<Joined, Memory>
+    requires text { text.now
+        ≡ written (all_loops (length one.now.labels)) one.now.labels }
+    requires within { IsWithinLimits SECOND_LIMITS one.now }
+    requires writable { HasWritableLabels one.now }
+    ensures joined { IfOk
+        result (λ pair.
+        (other : ANamed) × Reads text.now SECOND_LIMITS other × IsJoined other one.now pair) }
+    ensures small { IfOk result CanDecide }
+{
+    let other = read_back(alloc, text)?;
+    joined(alloc, &other, one)
+}
+
 /// The reply to the automaton: whether the one that accepts everything over its labels is included
 /// in it.
 fn of_one<'a>(
@@ -63,13 +81,19 @@ fn of_one<'a>(
         (IsPropertyDecidedFor universality made_name.entry.now certificate.entry.now mode one.now) }
 {
     let bytes = universal_text(alloc, &one.labels)?;
-    let other = read_back(alloc, bytes.as_slice())?;
-    let pair = joined(alloc, &other, one)?;
-    let put = Put {
-        name: made_name,
-        bytes,
-    };
-    decided(alloc, "universal", put, certificate, mode, &pair)
+    match pair_with_universal(alloc, bytes.as_slice(), one) {
+        Ok(pair) => {
+            let put = Put {
+                name: made_name,
+                bytes,
+            };
+            decided(alloc, "universal", put, certificate, mode, &pair)
+        },
+        Err(refused) => {
+            drop(bytes);
+            Err(refused)
+        },
+    }
 }
 
 /// The reply to what was read.

@@ -179,7 +179,8 @@ module _ (A : Automaton) (valid : IsAutomaton A) (starts targets : List ℕ) (sp
 -- ---- cycles
 
 module _ (A : Automaton) (numbers : List ℕ) (are : AreComponentNumbers A numbers) where
-  numbers_fall : (p : ℕ) (w : List ℕ) (q : ℕ) (flag : Bool) → Run A p w q flag → at numbers q ≤ at numbers p
+  -- A run leads to no greater number.
+  pub numbers_fall : (p : ℕ) (w : List ℕ) (q : ℕ) (flag : Bool) → Run A p w q flag → at numbers q ≤ at numbers p
   numbers_fall p [] q flag (e, f) = subst (λ x. at numbers x ≤ at numbers p) e (le_refl (at numbers p))
   numbers_fall p (a ∷ w) q flag (next, later, move, rest, is) =
       let one = are.fall p a next move in

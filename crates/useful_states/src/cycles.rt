@@ -34,7 +34,7 @@ fn targets_of(alloc: Global, automaton: &Auto) -> Result<Vec<u32>, Memory>
 
 /// The number of each state's component. Refused where there are 2^32 - 1 states, more than a graph
 /// has nodes.
-pub(crate) fn component_numbers(alloc: Global, automaton: &Auto) -> Result<Vec<u32>, Memory>
+pub fn component_numbers(alloc: Global, automaton: &Auto) -> Result<Vec<u32>, Memory>
     ensures { IfOk result (λ numbers. AreComponentNumbers automaton.now numbers.items) }
 {
     let states = automaton.states();
@@ -47,7 +47,7 @@ pub(crate) fn component_numbers(alloc: Global, automaton: &Auto) -> Result<Vec<u
 }
 
 /// Tells whether the state lies on a cycle.
-pub(crate) fn is_on_cycle(automaton: &Auto, numbers: &[u32], state: u32) -> bool
+pub fn is_on_cycle(automaton: &Auto, numbers: &[u32], state: u32) -> bool
     requires numbers { AreComponentNumbers automaton.now numbers.now }
     requires state { state < automaton.now.states }
     ensures { IsTrue result ↔ IsOnCycle automaton.now state }

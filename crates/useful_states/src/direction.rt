@@ -2,7 +2,7 @@
 
 /// How moves are followed.
 #[derive(Clone, Copy)]
-pub(crate) enum Direction {
+pub enum Direction {
     /// From source to target.
     Forward,
     /// From target to source.

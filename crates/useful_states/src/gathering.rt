@@ -88,7 +88,7 @@ impl Gathered {
     }
 
     /// Adds all states that any number of moves lead to from those that are there.
-    pub(crate) fn close(&mut self, automaton: &Auto, direction: Direction) -> Result<(), Memory>
+    pub fn close(&mut self, automaton: &Auto, direction: Direction) -> Result<(), Memory>
         requires listed { ListsMembers self.old }
         requires states { self.old.set.states ≡ automaton.now.states }
         ensures { OnOk result

@@ -29,6 +29,8 @@ mod keeping;
 pub mod laws;
 mod searching;
 
+pub use cycles::{component_numbers, is_on_cycle};
+pub use direction::Direction;
 pub use gathering::Gathered;
 pub use keeping::{keep, trim};
 pub use searching::useful;

@@ -12,12 +12,12 @@ returns-in_err-end-2 c =
     let rules = first_rules c.args.mode in
     let steps = c.args.steps.now in
     let p = err_from_is_err_and c.from_residual-in_err-end-2.result c.from_residual-in_err-end-2.ensures.1 in
-    let told = end_fails FirstStep rules A c.loop-i.end 1 c.loop-i.i steps c.index-steps-i.result c.in_err-end-2.field-0.0 c.loop-i-test.true c.loop-i.invariant
-    (subst (λ (s : FirstStep). TellsStep FirstStep rules c.loop-i.end (1 + c.loop-i.i) s (Err c.in_err-end-2.field-0.0)) c.index-steps-i.is c.in_err-end-2.ensures) in
+    let told = end_fails FirstStep rules A c.loop-i.end c.args.item c.loop-i.i steps c.index-steps-i.result c.in_err-end-2.field-0.0 c.loop-i-test.true c.loop-i.invariant
+    (subst (λ (s : FirstStep). TellsStep FirstStep rules c.loop-i.end (c.args.item + c.loop-i.i) s (Err c.in_err-end-2.field-0.0)) c.index-steps-i.is c.in_err-end-2.ensures) in
     rw (p.1, p.2) told
 
 pub loop-i-preserved : goal.loop-i-preserved
 loop-i-preserved c =
     let rules = first_rules c.args.mode in
-    follows_more FirstStep rules c.args.automaton.now c.in_ok-end-2.end c.loop-i.end 1 c.loop-i.i c.args.steps.now c.index-steps-i.result c.loop-i-test.true c.loop-i.invariant
-    (subst (λ (s : FirstStep). StepFollows FirstStep rules c.loop-i.end (1 + c.loop-i.i) s c.in_ok-end-2.end) c.index-steps-i.is c.in_ok-end-2.ensures)
+    follows_more FirstStep rules c.args.automaton.now c.in_ok-end-2.end c.loop-i.end c.args.item c.loop-i.i c.args.steps.now c.index-steps-i.result c.loop-i-test.true c.loop-i.invariant
+    (subst (λ (s : FirstStep). StepFollows FirstStep rules c.loop-i.end (c.args.item + c.loop-i.i) s c.in_ok-end-2.end) c.index-steps-i.is c.in_ok-end-2.ensures)

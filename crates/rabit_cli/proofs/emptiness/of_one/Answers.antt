@@ -7,14 +7,14 @@ use Rattle.rabit_cli.specs.Empty.{emptiness}
 use Rattle.rabit_cli.proofs.PairLemmas.{ok_gives}
 use Rattle.rabit_cli.proofs.emptiness.of_one.Goals as goal
 
-pub returns : goal.returns
-returns c =
+pub returns-in-Ok : goal.returns-in-Ok
+returns-in-Ok c =
     let e = c.args.made_name.now in
     let cert = c.args.certificate.now in
     let m = c.args.mode in
     let bytes = c.in_ok-bytes.bytes in
-    let other = c.in_ok-other.other in
-    let pair = c.in_ok-pair.pair in
-    let reads = subst (λ t. Reads t SECOND_LIMITS other) (c.as_slice.ensures ∙ c.in_ok-bytes.ensures) c.in_ok-other.ensures.reads in
+    let pair = c.in-Ok.pair in
+    let (other, read, joined) = c.in-Ok.ensures.joined in
+    let reads = subst (λ t. Reads t SECOND_LIMITS other) (c.as_slice.ensures ∙ c.in_ok-bytes.ensures) read in
     ok_gives (IsPropertyDecided (codes "empty") bytes e cert m pair) (IsPropertyDecidedFor emptiness e cert m c.args.one.now) c.decided.result
-    (λ (r : Reply) is. (other, reads, (pair, c.in_ok-pair.ensures.joined, subst (λ t. IsPropertyDecided (codes "empty") t e cert m pair r) c.in_ok-bytes.ensures is))) c.decided.ensures
+    (λ (r : Reply) is. (other, reads, (pair, joined, subst (λ t. IsPropertyDecided (codes "empty") t e cert m pair r) c.in_ok-bytes.ensures is))) c.decided.ensures

@@ -1,0 +1,3 @@
+pub mod MoreLaws
+pub mod AvoidLemmas
+pub mod PartLemmas
