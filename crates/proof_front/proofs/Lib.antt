@@ -1,0 +1,4 @@
+pub mod StageLemmas
+pub mod OneLemmas
+pub mod StateLemmas
+pub mod TruthLemmas
