@@ -1,13 +1,16 @@
 #!/usr/bin/env python3
-"""A second checker of certificates of both versions and of cross files, in plain Python, written from docs/FORMATS.md alone.
+"""A second checker of certificates of both versions, of cross files and of proof files, in plain Python, written from
+docs/FORMATS.md alone.
 
     tools/check_cert.py [--patient] A B CERT
     tools/check_cert.py [--patient] --cross A B FILE
+    tools/check_cert.py [--patient] --proof A B PROOF
 
 It prints what `rabit check A B CERT`, with the option --cross what `rabit cross-check A B FILE`, prints and ends with the
 same status: 0 included, 1 not included, 2 a list, 4 a fault of an automaton's text, 5 a refused certificate or cross file,
-6 a file that cannot be read. It shares no line with the program. It is not proved, it is not fast, and it takes what memory
-it needs: its use is that somebody who trusts neither the program nor its proofs can read it in an evening.
+6 a file that cannot be read. With --proof it does the same of a proof file, whose faults it prints as `proof line L: NAME`
+and `proof item I: rule R`. It shares no line with the program. It is not proved, it is not fast, and it takes what memory it
+needs: its use is that somebody who trusts neither the program nor its proofs can read it in an evening.
 
 Some files would keep it at work for hours: a relation at a large lookahead, say, that only long paths tell. So it counts the
 steps of its work, each of about a seventh of a microsecond: 14 million are free, which are a few seconds, and each byte past
@@ -18,15 +21,25 @@ on no clock.
 A set of states is a number: state q is in it where its bit q is 1. A block of pairs is a dictionary from a state to the set
 of those that it is related to. Where many sets are looked up they are keys as bytes: Python's hash of a number is its rest by
 2**61 - 1, so states 61 apart give one hash, and a file can be made whose sets all collide. That of bytes differs from run to
-run.
+run. The first automaton of a proof file may have so many states that a set for each of them is too much: past 2,048 states
+there is none, and a block stays the runs of its rows.
 """
+import re
 import sys
+from bisect import bisect_left, bisect_right
 from collections import Counter
 from functools import cached_property
-from itertools import groupby
+from itertools import accumulate, groupby
 
-STATES, LABELS, TRANSITIONS = {1: 2048, 2: 512}, 256, 65536
-AUTOMATON_BYTES, CERTIFICATE_BYTES = 1 << 24, 1 << 30
+# of the first file and of the second the most states, transitions and bytes, beside a certificate or a cross file and beside
+# a proof file
+LIMITS = {1: (2048, 65536, 1 << 24), 2: (512, 65536, 1 << 24)}
+PROOF_LIMITS = {1: (1 << 18, 1 << 21, 1 << 26), 2: (2048, 65536, 1 << 24)}
+LABELS, CERTIFICATE_BYTES = 256, 1 << 30
+# an automaton with more states is large: it has no set of states for each of them
+SMALL = 2048
+# lassos are told place by place as long as there are no more places with a state than these, and so many for each label
+PLACES, PLACES_PER_LABEL = 1 << 18, 16
 # the steps of work that small files may take, and those that each byte of a file past so many adds
 FREE_STEPS, STEPS_PER_BYTE, SMALL_FILE = 14_000_000, 500, 1 << 16
 NOT_CHECKED = 15
@@ -37,6 +50,8 @@ HEADERS = [
     for form in ("yes", "no", "list")
 ]
 CROSS_HEADER = b"rabit-cross 1"
+PROOF_HEADERS = [f"rabit-proof 1 {form}".encode() for form in ("no", "product", "delayed", "closed")]
+BAD_BYTE = re.compile(rb"[\x00-\x08\x0a-\x1f\x7f]")
 
 
 class Refused(Exception):
@@ -80,6 +95,14 @@ def set_of(states):
     return mask
 
 
+def set_below(bound, states):
+    """The set of these states, all of them below the bound, in a time that grows by both and not by their product."""
+    digits = bytearray(b"0") * (bound + 1)
+    for state in states:
+        digits[bound - state] = 49
+    return int(digits, 2)
+
+
 def key_of(mask):
     """The set as bytes, each set with bytes of its own."""
     return mask.to_bytes(mask.bit_length() // 8 + 1, "little")
@@ -98,7 +121,7 @@ class Steps:
     """What one step leads to: `rows` are the sets that single states lead to, and `of` is what a set does; `made` is the same
     for sets that are asked of once. Each row has at most `bits` bits."""
 
-    def __init__(self, rows, bits=STATES[1]):
+    def __init__(self, rows, bits=SMALL):
         self.rows, self.bits, self.found, self.eights = rows, bits, {}, {}
 
     @cached_property
@@ -144,6 +167,7 @@ class Automaton:
     """States and labels are numbers, `transitions` are sorted, and `accepting` is a set.
 
     `moves[state]` are the transitions out of a state, as (label, target), and `back[state]` those into it, as (label, source).
+    `begins[state]` is the number of the first transition that leaves this state or a later one.
     """
 
     def __init__(self, states, initial, transitions, accepting):
@@ -151,6 +175,20 @@ class Automaton:
         self.states, self.initial, self.accepting = states, initial, accepting
         self.transitions = sorted(transitions)
         self.steps, self.arrived = {}, {}
+
+    @cached_property
+    def accepts(self):
+        """By state whether it is accepting."""
+        spend(self.states)
+        return [digit == "1" for digit in f"{self.accepting:0{self.states}b}"[::-1]]
+
+    @cached_property
+    def begins(self):
+        spend(self.states + len(self.transitions))
+        counts = [0] * (self.states + 1)
+        for source, _, _ in self.transitions:
+            counts[source + 1] += 1
+        return list(accumulate(counts))
 
     @cached_property
     def moves(self):
@@ -177,14 +215,17 @@ class Automaton:
         return by_label
 
     @cached_property
-    def useful(self):
-        """By mode the useful states."""
-        spend(20 * self.states + 6 * len(self.transitions))
-        to = Steps({state: set_of(target for _, target in moves) for state, moves in enumerate(self.moves)})
-        reached = closed_under(to, 1 << self.initial)
-        before = Steps({state: set_of(source for _, source in back) for state, back in enumerate(self.back)})
-        cycling = endless(self, [mark(self, state, before.rows[state]) for state in range(self.states)])
-        return {"buchi": reached & cycling, "finite": reached & closed_under(before, self.accepting)}
+    def endlessly_useful(self):
+        return set_below(self.states, Cycles(lambda state: self.accepts[state], self.targets).leading([self.initial]))
+
+    @cached_property
+    def finitely_useful(self):
+        before = self.back
+        ending = reached(states_in(self.accepting), lambda state: [source for _, source in before[state]])
+        return set_below(self.states, ending & reached([self.initial], self.targets))
+
+    def useful(self, mode):
+        return self.endlessly_useful if mode == "buchi" else self.finitely_useful
 
     def ahead(self, label):
         """Where the label leads from states."""
@@ -211,17 +252,106 @@ class Automaton:
         return self.arrived[label]
 
     def out(self, state):
-        spend(len(self.transitions))
-        return [t for t, (source, _, _) in enumerate(self.transitions) if source == state]
+        """The numbers of the transitions out of the state."""
+        return range(self.begins[state], self.begins[state + 1])
+
+    def leaving(self, state):
+        """The transitions out of the state."""
+        return self.transitions[self.begins[state] : self.begins[state + 1]]
+
+    def targets(self, state):
+        return [target for _, _, target in self.leaving(state)]
+
+    def targets_by(self, state, label):
+        """Where the label leads from the state."""
+        first, end = (bisect_left(self.transitions, (state, a)) for a in (label, label + 1))
+        return [target for _, _, target in self.transitions[first:end]]
 
 
-def closed_under(steps, mask):
-    """The states that any number of steps leads to from the set."""
-    new = mask
-    while new:
-        new = steps.of(new) & ~mask
-        mask |= new
-    return mask
+def reached(starts, after):
+    """The nodes that ways lead to from the starts; `after` gives those that one step leads to."""
+    met, todo = set(), list(starts)
+    while todo:
+        node = todo.pop()
+        if node not in met:
+            met.add(node)
+            following = after(node)
+            spend(8 + 2 * len(following))
+            todo += following
+    return met
+
+
+class Cycles:
+    """A search for cycles, depth first: which nodes lead to an accepting one that lies on a cycle? The way from the start to
+    the node where the search is, with what hangs together with it, is cut into parts: of each node of a part there are ways to
+    all others of it. A part is the place of its first node on the way, whether one of its nodes is accepting, and whether it
+    is known to lead to an accepting node on a cycle; before all others there is one of no node."""
+
+    def __init__(self, accepting, after, most=float("inf")):
+        self.accepting, self.after, self.most, self.closed = accepting, after, most, False
+        self.places, self.way, self.parts, self.found = {}, [], [[-1, False, False]], set()
+
+    def leading(self, starts):
+        """Of the nodes that are reached those that lead to such a one."""
+        for _ in self.search(starts):
+            pass
+        return self.found
+
+    def any(self, starts):
+        """Whether one is reached, or None where more nodes are met than may be."""
+        for _ in self.search(starts):
+            if self.closed or len(self.places) > self.most:
+                return self.closed or None
+        return self.closed
+
+    def search(self, starts):
+        steps = [(None, iter(starts))]
+        while steps:
+            node, ways = steps[-1]
+            for target in ways:
+                if not self.known(target):
+                    steps.append((target, iter(self.enter(target))))
+                    break
+            else:
+                steps.pop()
+                self.leave(node)
+            yield
+
+    def enter(self, node):
+        self.places[node] = len(self.way)
+        self.parts.append([len(self.way), self.accepting(node), False])
+        self.way.append(node)
+        following = self.after(node)
+        spend(20 + 5 * len(following))
+        return following
+
+    def known(self, node):
+        """Whether the node has been met. If it is on the way, all from there on hangs together and lies on a cycle."""
+        place, parts = self.places.get(node), self.parts
+        if place is None:
+            return False
+        if place < 0:
+            parts[-1][2] = parts[-1][2] or node in self.found
+            return True
+        while parts[-1][0] > place:
+            _, accepting, leads = parts.pop()
+            parts[-1][1:] = parts[-1][1] or accepting, parts[-1][2] or leads
+        if parts[-1][1]:
+            parts[-1][2] = self.closed = True
+        return True
+
+    def leave(self, node):
+        """All from the node on leaves the way, if nothing before it hangs together with it."""
+        first = self.places.get(node)
+        if first is None or self.parts[-1][0] < first:
+            return
+        _, _, leads = self.parts.pop()
+        self.parts[-1][2] = self.parts[-1][2] or leads
+        part = self.way[first:]
+        del self.way[first:]
+        self.places.update(dict.fromkeys(part, -1))
+        if leads:
+            self.found.update(part)
 
 
 # A graph of an automaton is a tuple: for each state the set of those that have an arc to it, and, by the number of states
@@ -262,7 +392,7 @@ def extended(automaton, graph, arrivals):
         for source in ones:
             arcs |= graph[source]
         made[state] = arcs
-    spend(10 + states // 16 + 6 * len(arrivals) + 2 * arcs_taken)
+    spend(10 + states // 16 + max(6, states // 128) * len(arrivals) + 2 * arcs_taken)
     return tuple(made)
 
 
@@ -334,83 +464,75 @@ def endless(automaton, graph):
     return left
 
 
-def number_of(names, name):
-    return names.setdefault(name, len(names))
-
-
-def line_fault(line):
-    """The first of the kinds that a line has by itself, or None."""
-    if any(byte < 0x20 and byte != 9 or byte == 0x7F for byte in line):
-        return "BadByte"
-    if b"," not in line:
-        return "Shape" if b"->" in line else "TokenLong" if len(line) > 255 else None
-    if line.count(b",") != 1 or line.count(b"->") != 1 or line.index(b"->") < line.index(b","):
-        return "Shape"
-    tokens = tokens_of(line)
-    if not all(tokens):
-        return "EmptyToken"
-    return "TokenLong" if max(map(len, tokens)) > 255 else None
-
-
 def tokens_of(line):
-    label, rest = line.split(b",")
-    source, target = rest.split(b"->")
-    return [token.strip(b" \t") for token in (label, source, target)]
+    """The first of the kinds of fault that a line has by itself, or None; and the name of a state, or the label, the source
+    and the target of a transition."""
+    if BAD_BYTE.search(line):
+        return "BadByte", ()
+    label, comma, rest = line.partition(b",")
+    if not comma:
+        return "Shape" if b"->" in line else "TokenLong" if len(line) > 255 else None, (line,)
+    ends = rest.split(b"->")
+    if len(ends) != 2 or b"," in rest or b"->" in label:
+        return "Shape", ()
+    tokens = label.strip(b" \t"), ends[0].strip(b" \t"), ends[1].strip(b" \t")
+    if not all(tokens):
+        return "EmptyToken", ()
+    return "TokenLong" if len(line) > 255 and max(map(len, tokens)) > 255 else None, tokens
 
 
-def read_automaton(number, data):
-    """The automaton and the texts of its labels, or the first fault of the text."""
+class Reader:
+    """Reads the lines of an automaton one after the other. Of the lines before the first transition `before` are the states;
+    `listed` are those of the later state lines."""
 
-    def fault(line, kind):
-        raise Refused(f"file {number} line {line}: {kind}", 4)
+    def __init__(self, number, limits):
+        self.number, (self.most_states, self.most_transitions, self.most_bytes) = number, limits
+        self.names, self.labels, self.transitions, self.before, self.listed = {}, {}, {}, [], []
 
-    if len(data) > AUTOMATON_BYTES:
-        fault(0, "Long")
-    names, labels, transitions, before, accepting = {}, {}, {}, 0, []
-    initial = first = None
-    lines = [(at, line.strip(b" \t\r")) for at, line in enumerate(data.split(b"\n"), 1)]
-    lines = [(at, line) for at, line in lines if line]
-    if not lines:
-        fault(0, "Empty")
-    for at, line in lines:
-        kind = line_fault(line)
+    def fault(self, line, kind):
+        raise Refused(f"file {self.number} line {line}: {kind}", 4)
+
+    def take(self, at, line):
+        kind, tokens = tokens_of(line)
         if kind:
-            fault(at, kind)
-        if b"," not in line:
-            state = number_of(names, line)
-            if not transitions:
-                before += 1
-                first = state if first is None else first
-            accepting.append((state, not transitions))
+            self.fault(at, kind)
+        names, labels, transitions = self.names, self.labels, self.transitions
+        if len(tokens) == 1:
+            (self.listed if transitions else self.before).append(names.setdefault(line, len(names)))
         else:
-            label, source, target = tokens_of(line)
-            if not transitions:
-                if before > 1:
-                    fault(at, "TwoInitial")
-                initial = first if before == 1 else number_of(names, source)
-            move = (number_of(names, source), number_of(labels, label), number_of(names, target))
-            if len(names) > STATES[number]:
-                fault(at, "TooManyStates")
-            if len(labels) > LABELS:
-                fault(at, "TooManyLabels")
-            transitions[move] = True
-            if len(transitions) > TRANSITIONS:
-                fault(at, "TooManyTransitions")
-        if len(names) > STATES[number]:
-            fault(at, "TooManyStates")
-    if not transitions:
-        initial = first
-        listed = [state for state, _ in accepting[1:]]
-    else:
-        listed = [state for state, early in accepting if not (early and before == 1)]
-    return Automaton(len(names), initial, transitions, set_of(listed or range(len(names)))), list(labels)
+            if not transitions and len(self.before) > 1:
+                self.fault(at, "TwoInitial")
+            label, source, target = tokens
+            p, a = names.setdefault(source, len(names)), labels.setdefault(label, len(labels))
+            transitions[p, a, names.setdefault(target, len(names))] = True
+        if len(names) > self.most_states:
+            self.fault(at, "TooManyStates")
+        if len(labels) > LABELS:
+            self.fault(at, "TooManyLabels")
+        if len(transitions) > self.most_transitions:
+            self.fault(at, "TooManyTransitions")
+
+    def read(self, data):
+        """The automaton and the texts of its labels, or the first fault of the text."""
+        if len(data) > self.most_bytes:
+            self.fault(0, "Long")
+        for at, line in enumerate(data.split(b"\n"), 1):
+            line = line.strip(b" \t\r")
+            if line:
+                self.take(at, line)
+        if not self.names:
+            self.fault(0, "Empty")
+        # the first state that is seen is the initial one: of a state line, or the source of the first transition
+        listed = (self.listed if self.transitions else self.before[1:]) or range(len(self.names))
+        accepting = set_below(len(self.names), listed)
+        return Automaton(len(self.names), 0, self.transitions, accepting), list(self.labels)
 
 
 def join(first, first_labels, second, second_labels):
     """Both over the labels of the first and then the new ones of the second; the second's labels get those numbers."""
     numbers = {}
     for label in first_labels + second_labels:
-        number_of(numbers, label)
+        numbers.setdefault(label, len(numbers))
     of = [numbers[label] for label in second_labels]
     moved = [(source, of[label], target) for source, label, target in second.transitions]
     return first, Automaton(second.states, second.initial, moved, second.accepting), list(numbers)
@@ -420,7 +542,8 @@ def join(first, first_labels, second, second_labels):
 
 
 class Text:
-    """The lines of a certificate, taken one after another; each way to take one refuses what cannot stand there."""
+    """The lines of a certificate, taken one after another; each way to take one refuses what cannot stand there. What refuses a
+    certificate tells its line or its item, and `main` puts before it of what."""
 
     def __init__(self, data):
         if len(data) > CERTIFICATE_BYTES:
@@ -429,7 +552,7 @@ class Text:
         self.data, self.place, self.at = data, 0, 0
 
     def fault(self, kind):
-        raise Refused(f"certificate line {self.at}: {kind}", 5)
+        raise Refused(f"line {self.at}: {kind}", 5)
 
     def line(self):
         self.at += 1
@@ -565,6 +688,32 @@ def read_origin(text, mode, marked):
     return under, tuple(numbers)
 
 
+def read_words(text, *kinds):
+    return [text.take(kind(name, tail))[1] for name, tail in kinds]
+
+
+def read_lasso(text):
+    return read_words(text, ("prefix", 1), ("loop", 2))
+
+
+def read_elements(text, mode, marked):
+    (count,) = text.take(kind("elements #"))[1]
+    return [read_origin(text, mode, marked) for _ in range(count)]
+
+
+def read_closed(text, version, mode):
+    """What is behind the logs of a yes."""
+    closed = {"order": read_block(text, version), "elements": read_elements(text, mode, True)}
+    closed["cover"], closed["steps"] = text.take(kind("cover", 1))[1], []
+    for element, (under, _) in enumerate(closed["elements"]):
+        if under is None:
+            _, (named, *by) = text.take(kind("step #", 1))
+            if named != element:
+                text.fault("Order")
+            closed["steps"].append((named, by))
+    return closed
+
+
 def read_certificate(data):
     """The certificate as a dictionary, or the first fault of the text."""
     text = Text(data)
@@ -575,25 +724,14 @@ def read_certificate(data):
     version = int(header.split()[1])
     cert = {"mode": mode, "form": form, "sizes": tuple(text.take(kind("sizes # # #"))[1])}
     if form == "no":
-        parts = [("prefix", 1), ("loop", 2)] if mode == "buchi" else [("word", 1)]
-        cert["words"] = [text.take(kind(name, tail))[1] for name, tail in parts]
+        cert["words"] = read_lasso(text) if mode == "buchi" else read_words(text, ("word", 1))
     else:
         cert["first"], cert["second"] = read_first_log(text, version), read_second_log(text, version, mode)
         if form == "list":
             (cert["limit"],) = text.take(kind("limit #"))[1]
+            cert["elements"] = read_elements(text, mode, False)
         else:
-            cert["order"] = read_block(text, version)
-        (count,) = text.take(kind("elements #"))[1]
-        cert["elements"] = [read_origin(text, mode, form == "yes") for _ in range(count)]
-        if form == "yes":
-            cert["cover"] = text.take(kind("cover", 1))[1]
-            cert["steps"] = []
-            for element, (under, _) in enumerate(cert["elements"]):
-                if under is None:
-                    _, (named, *by) = text.take(kind("step #", 1))
-                    if named != element:
-                        text.fault("Order")
-                    cert["steps"].append((named, by))
+            cert.update(read_closed(text, version, mode))
     text.finish()
     return cert
 
@@ -608,6 +746,29 @@ def read_cross(data):
     cross["block"] = read_block(text, 1)
     text.finish()
     return cross
+
+
+def read_proof(data):
+    """The proof file as a dictionary, or the first fault of the text."""
+    text = Text(data)
+    header = text.line()
+    if header not in PROOF_HEADERS:
+        text.fault("Header")
+    form = header.decode().split()[2]
+    proof = {"form": form, "sizes": tuple(text.take(kind("sizes # # #"))[1])}
+    if form == "no":
+        proof["words"] = read_lasso(text)
+    else:
+        proof["second"] = read_second_log(text, 2, "buchi")
+        proof["letters"], proof["map"] = read_words(text, ("letters", 1), ("map", 1))
+        proof["accepting"] = text.ascend(text.take(kind("accepting", 1))[1])
+        proof["first"] = read_first_log(text, 2)
+        if form == "closed":
+            proof.update(read_closed(text, 2, "buchi"))
+        else:
+            proof["rows"] = {p: codes for (p,), codes in read_ranks(text, 1).items()}
+    text.finish()
+    return proof
 
 
 # ---------------------------------------------------------------- relations and games
@@ -627,6 +788,28 @@ class Closure:
 
     def relates(self, p, q):
         return p == q or self.rows.get(p, 0) >> q & 1 == 1
+
+
+class RunsClosure:
+    """As Closure, of the runs of a block; what is related is looked for when it is asked."""
+
+    def __init__(self, block):
+        self.block, self.lefts = block, list(block)
+
+    def relates(self, p, q):
+        if p == q:
+            return True
+        spend(10 + len(self.lefts) // 16)
+        rest, todo = list(self.lefts), [p]
+        while todo:
+            for first, last in self.block.get(todo.pop(), ()):
+                if first <= q <= last:
+                    return True
+                at, end = bisect_left(rest, first), bisect_right(rest, last)
+                spend(10 + end - at + (len(rest) // 256 if at < end else 0))
+                todo += rest[at:end]
+                del rest[at:end]
+        return False
 
 
 class Identity:
@@ -781,8 +964,74 @@ class Game:
         return all(self.keeps(states & same, left, after & fit) for fit, same in self.alike.items())
 
 
+class RunsGame:
+    """As Game in one automaton, pair by pair: of a large automaton, whose block is the runs of its rows. A set of states is a
+    tuple, ascending."""
+
+    def __init__(self, automaton, turned, look, block):
+        self.automaton, self.turned, self.look, self.block = automaton, turned, look, block
+        self.moves, self.by_labels, self.kept = automaton.back if turned else automaton.moves, {}, {}
+
+    def is_stable(self):
+        pairs = ((p, q) for p, runs in self.block.items() for first, last in runs for q in range(first, last + 1))
+        return all(self.matching(p, (q,)) and (not self.moves[p] or self.keeps(p, self.look, (q,))) for p, q in pairs)
+
+    def matching(self, p, states):
+        """Those of the states that match p."""
+        spend(3 + len(states))
+        if self.turned and p == self.automaton.initial:
+            states = tuple(q for q in states if q == p)
+        accepts = self.automaton.accepts
+        return tuple(q for q in states if accepts[q]) if accepts[p] else states
+
+    def by_label(self, state):
+        """The states that one move from this one leads to, by its label."""
+        if state not in self.by_labels:
+            spend(10 + 3 * len(self.moves[state]))
+            found = self.by_labels[state] = {}
+            for label, target in self.moves[state]:
+                found.setdefault(label, []).append(target)
+        return self.by_labels[state]
+
+    def keeps(self, p, left, replies):
+        """Whether each path of so many moves that is shown from p, of which there is one, is answered from a reply."""
+        asked = p, left, replies
+        spend(20 + len(replies))
+        if asked not in self.kept:
+            self.kept[asked] = all(
+                self.are_answered(targets, left - 1, self.answers(label, replies)) for label, targets in self.by_label(p).items()
+            )
+        return self.kept[asked]
+
+    def answers(self, label, replies):
+        answers = set().union(*(self.by_label(q).get(label, ()) for q in replies))
+        spend(10 + 5 * len(answers))
+        return tuple(sorted(answers))
+
+    def are_answered(self, targets, left, answers):
+        """Whether each of the targets, which are shown by one label, is answered by one of these, or is later."""
+        some = {}
+        for target in targets:
+            case = self.automaton.accepts[target], self.turned and target == self.automaton.initial
+            if case not in some:
+                some[case] = self.matching(target, answers)
+            if not self.are_listed(target, some[case]):
+                if not left or not some[case] or not self.moves[target] or not self.keeps(target, left, some[case]):
+                    return False
+        return True
+
+    def are_listed(self, p, states):
+        """Whether one of the states is in the row of p."""
+        runs = self.block.get(p, ())
+        spend(10 + 5 * len(runs))
+        places = ((bisect_left(states, first), last) for first, last in runs)
+        return any(place < len(states) and states[place] <= last for place, last in places)
+
+
 def stable(automaton, side, look, block):
     """Whether the block is stable on this side."""
+    if is_large(automaton):
+        return RunsGame(automaton, side == "backward", look, block).is_stable()
     everything = (1 << automaton.states) - 1
 
     def fit(p):
@@ -801,6 +1050,10 @@ def stable_across(first, second, look, block):
     return Game(first, second, False, fit, look, block).is_stable()
 
 
+def is_large(automaton):
+    return automaton.states > SMALL
+
+
 class Ranks:
     """The right states of one row of a delayed block, by their codes; a code is the rank and one, or 0."""
 
@@ -817,19 +1070,20 @@ class Ranks:
         return self.below[code]
 
 
-def row_right(automaton, rows, label, target_rows, row):
-    """Whether each right state of the row answers by the label into each of these rows, with a lesser rank where it has one
-    above 0."""
-    behind = automaton.behind(label)
-    for key in target_rows:
+def unanswered(automaton, rows, label, keys, row):
+    """The right states of the row that do not answer by the label into each of the rows with these keys, with a lesser rank
+    where they have one above 0."""
+    behind, missed = automaton.behind(label), 0
+    for key in keys:
         after = rows.get(key)
         spend(10 + 3 * len(row.by_code))
-        if after is None or row.all & ~behind.of(after.all):
-            return False
+        if after is None:
+            return row.all
+        missed |= row.all & ~behind.of(after.all)
         for code, states in row.by_code.items():
-            if code > 1 and states & ~behind.of(after.ranked_below(code)):
-                return False
-    return True
+            if code > 1:
+                missed |= states & ~behind.of(after.ranked_below(code))
+    return missed
 
 
 def delayed_right(automaton, labels, block):
@@ -842,7 +1096,7 @@ def delayed_right(automaton, labels, block):
             spend(10 + (labels if ahead else 0))
             targets = states_in(automaton.ahead(label).rows.get(p, 0))
             rests = [(*ahead[1:], more) for more in range(labels)] if ahead else [()]
-            if not row_right(automaton, rows, label, ((target, *rest) for target in targets for rest in rests), row):
+            if unanswered(automaton, rows, label, ((target, *rest) for target in targets for rest in rests), row):
                 return False
     return True
 
@@ -870,37 +1124,40 @@ def keep(automaton, kept):
     listed = set(kept)
     numbers = {state: number for number, state in enumerate(sorted(listed | {automaton.initial}))}
     moves = [(numbers[p], a, numbers[q]) for p, a, q in automaton.transitions if p in listed and q in listed]
-    accepting = set_of(numbers[q] for q in states_in(automaton.accepting) if q in listed)
+    accepting = set_below(len(numbers), (numbers[q] for q in states_in(automaton.accepting) if q in listed))
     return Automaton(len(numbers), numbers[automaton.initial], moves, accepting)
 
 
 def merge(automaton, classes):
-    if max(classes) + 1 == automaton.states:
+    count = max(classes) + 1
+    if count == automaton.states:
         return automaton
     moves = {(classes[p], a, classes[q]) for p, a, q in automaton.transitions}
-    accepting = set_of({classes[q] for q in states_in(automaton.accepting)})
-    return Automaton(max(classes) + 1, classes[automaton.initial], moves, accepting)
+    accepting = set_below(count, (classes[q] for q in states_in(automaton.accepting)))
+    return Automaton(count, classes[automaton.initial], moves, accepting)
 
 
 def cut(automaton, gone):
     """Without these transitions, which ascend. What is known of the steps by other labels stays known."""
-    moves = list(automaton.transitions)
-    labels = {moves[t][1] for t in gone}
-    spend(len(gone) * (1 + len(moves) // 256))
-    for t in reversed(gone):
-        del moves[t]
+    moves, begin = [], 0
+    for t in gone:
+        moves += automaton.transitions[begin:t]
+        begin = t + 1
+    moves += automaton.transitions[begin:]
+    labels = {automaton.transitions[t][1] for t in gone}
     after = Automaton(automaton.states, automaton.initial, moves, automaton.accepting)
     after.steps = {key: steps for key, steps in automaton.steps.items() if key[0] not in labels}
     return after
 
 
-def class_shape(automaton, classes):
+def class_shape(count, classes):
+    """Whether there are so many classes, numbered as they first appear."""
     seen = 0
     for number in classes:
         if number > seen:
             return False
         seen = max(seen, number + 1)
-    return len(classes) == automaton.states
+    return len(classes) == count
 
 
 def in_block(block, states):
@@ -925,7 +1182,7 @@ def as_sets(block):
 
 def cut_rules(automaton, pair, gone, blocks):
     """Rules 7 and 8 of a cut of the first log: the rule that is broken, or None."""
-    closures = [Closure(block) for _, _, block in blocks]
+    closures = [RunsClosure(block) if is_large(automaton) else Closure(block) for _, _, block in blocks]
     sources = Identity if pair == 1 else closures[0]
     targets = Identity if pair == 2 else closures[-1]
     moves = [(automaton.transitions[t], automaton.transitions[b]) for t, b in gone]
@@ -943,15 +1200,17 @@ def first_step(automaton, mode, step):
     if step[0] == "trim":
         if any(state >= automaton.states for state in step[1]):
             return 1, None
-        return (2, None) if automaton.useful[mode] & ~set_of(step[1]) else (None, keep(automaton, step[1]))
+        lost = automaton.useful(mode) & ~set_below(automaton.states, step[1])
+        return (2, None) if lost else (None, keep(automaton, step[1]))
     if step[0] == "merge":
-        return (None, merge(automaton, step[1])) if class_shape(automaton, step[1]) else (3, None)
+        return (None, merge(automaton, step[1])) if class_shape(automaton.states, step[1]) else (3, None)
     _, pair, look, gone, blocks = step
     count = len(automaton.transitions)
     named = all(t < count and b < count for t, b in gone) and all(in_block(block, automaton.states) for _, _, block in blocks)
     if not 1 <= look <= 6 or not named:
         return 1, None
-    blocks = [(side, k, as_sets(block)) for side, k, block in blocks]
+    if not is_large(automaton):
+        blocks = [(side, k, as_sets(block)) for side, k, block in blocks]
     if not all(stable(automaton, side, k, block) for side, k, block in blocks):
         return 4, None
     rule = cut_rules(automaton, pair, gone, blocks)
@@ -970,7 +1229,7 @@ def second_step(automaton, labels, step):
     named = in_ranks(block, states, labels) if by == "delayed" else 1 <= number <= 6 and in_block(block, states)
     if not named:
         return 1, None
-    if not class_shape(automaton, classes):
+    if not class_shape(automaton.states, classes):
         return 3, None
     if by == "delayed":
         if not delayed_right(automaton, labels, block):
@@ -1012,7 +1271,7 @@ class Unions:
     def over(self, first, last):
         level = (last - first + 1).bit_length() - 1
         while len(self.levels) <= level:
-            spend(2 * len(self.levels[0]))
+            spend(max(2, len(self.levels[0]) // 256) * len(self.levels[0]))
             below, half = self.levels[-1], 1 << len(self.levels) - 1
             self.levels.append([one | other for one, other in zip(below, below[half:])])
         return self.levels[level][first] | self.levels[level][last + 1 - (1 << level)]
@@ -1054,11 +1313,11 @@ class Buchi:
         source, label, target = self.first.transitions[t]
         if label not in self.graphs:
             self.graphs[label] = graph_of(self.second, label)
-        return source, target, self.first.accepting >> target & 1, self.graphs[label]
+        return source, target, self.first.accepts[target], self.graphs[label]
 
     def next(self, x, t):
         _, label, target = self.first.transitions[t]
-        return x[0], target, x[2] | self.first.accepting >> target & 1, self.extend(x[3], label)
+        return x[0], target, x[2] or self.first.accepts[target], self.extend(x[3], label)
 
     @staticmethod
     def at(x):
@@ -1070,7 +1329,9 @@ class Buchi:
         return (*x[:3], *x[3])
 
     def starts(self):
-        return [self.base(t) for t in range(len(self.first.transitions))]
+        """How many elements the others begin with, and these."""
+        count = len(self.first.transitions)
+        return count, map(self.base, range(count))
 
     def covers(self, g, h):
         """Whether each arc of g has one of h from the same state to one that the order relates its target to."""
@@ -1132,7 +1393,7 @@ class Finite:
         return x
 
     def starts(self):
-        return [self.start()]
+        return 1, [self.start()]
 
     def subsumes(self, x, y):
         spend(5 + 4 * bin(x[1]).count("1"))
@@ -1140,7 +1401,7 @@ class Finite:
 
     def failing(self, live):
         for place, x in live:
-            if self.first.accepting >> x[0] & 1 and not x[1] & self.second.accepting:
+            if self.first.accepts[x[0]] and not x[1] & self.second.accepting:
                 return place
         return None
 
@@ -1149,7 +1410,7 @@ class Finite:
 
 
 def broken(item, rule):
-    raise Refused(f"certificate item {item}: rule {rule}", 5)
+    raise Refused(f"item {item}: rule {rule}", 5)
 
 
 def make_elements(search, elements, item):
@@ -1192,16 +1453,14 @@ def check_yes(search, cert, item):
         if under is not None and not live_over(under, made[number]):
             broken(item + number, 12)
     item += count
-    starts = search.starts()
+    several, starts = search.starts()
     if any(number >= count for number in cert["cover"]):
         broken(item, 1)
-    if len(cert["cover"]) != len(starts) or not all(live_over(n, x) for n, x in zip(cert["cover"], starts)):
+    if len(cert["cover"]) != several or not all(live_over(n, x) for n, x in zip(cert["cover"], starts)):
         broken(item, 13)
-    outs = {}
     for element, by in cert["steps"]:
         item += 1
-        state = search.at(made[element])
-        out = outs.setdefault(state, search.first.out(state))
+        out = search.first.out(search.at(made[element]))
         if any(number >= count for number in by):
             broken(item, 1)
         if len(by) != len(out) or not all(live_over(n, search.next(made[element], t)) for n, t in zip(by, out)):
@@ -1239,47 +1498,62 @@ def accepts_lasso(automaton, prefix, turn):
     return states_after(automaton, prefix) & endless(automaton, graph_of_word(automaton, turn)) != 0
 
 
-def check_no(first, second, labels, cert):
-    for item, word in enumerate(cert["words"], 1):
+def accepts_by_places(automaton, prefix, turn):
+    """As accepts_lasso, by a search of the graph whose nodes are the places of the lasso, each with a state. Where few states
+    are at a place that costs less, and of a large automaton there is no other way."""
+    word, states = prefix + turn, automaton.states
+
+    def after(node):
+        place, state = divmod(node, states)
+        following = place + 1 if place + 1 < len(word) else len(prefix)
+        return [following * states + target for target in automaton.targets_by(state, word[place])]
+
+    most = float("inf") if is_large(automaton) else PLACES + PLACES_PER_LABEL * len(word)
+    found = Cycles(lambda node: automaton.accepts[node % states], after, most).any([automaton.initial])
+    return accepts_lasso(automaton, prefix, turn) if found is None else found
+
+
+def check_no(first, second, labels, words, accepts):
+    """The lines that tell of a valid no, and its status. It has a prefix and a loop, or a word."""
+    for item, word in enumerate(words, 1):
         if any(label >= len(labels) for label in word):
             broken(item, 1)
-    accepts = accepts_lasso if cert["mode"] == "buchi" else accepts_word
-    if not accepts(first, *cert["words"]):
-        broken(len(cert["words"]), 16)
-    if accepts(second, *cert["words"]):
-        broken(len(cert["words"]), 17)
+    if not accepts(first, *words):
+        broken(len(words), 16)
+    if accepts(second, *words):
+        broken(len(words), 17)
+    names = ("prefix", "loop") if len(words) == 2 else ("word",)
+    texts = [b",".join(labels[label] for label in word) for word in words]
+    lines = [name.encode() + (b": " + text if text else b":") for name, text in zip(names, texts)]
+    return [b"not included" + (b"" if len(words) == 2 else b", finite"), *lines], 1
+
+
+def go_through(automaton, log, item, carried_out):
+    """The automaton that the steps of a log make, and the item of the last; the first has the item behind this one."""
+    for step in log:
+        item += 1
+        rule, after = carried_out(automaton, step)
+        if rule:
+            broken(item, rule)
+        automaton = after
+    return automaton, item
 
 
 def check(first, second, labels, cert):
     """The lines that tell the verdict of a valid certificate, and its status."""
     if cert["sizes"] != (first.states, second.states, len(labels)):
         broken(0, 1)
-    finite = ", finite" if cert["mode"] == "finite" else ""
+    finite = cert["mode"] == "finite"
     if cert["form"] == "no":
-        check_no(first, second, labels, cert)
-        names = ("word",) if finite else ("prefix", "loop")
-        words = [b",".join(labels[label] for label in word) for word in cert["words"]]
-        lines = [name.encode() + (b": " + word if word else b":") for name, word in zip(names, words)]
-        return [b"not included" + finite.encode(), *lines], 1
-    item = 0
-    for step in cert["first"]:
-        item += 1
-        rule, after = first_step(first, cert["mode"], step)
-        if rule:
-            broken(item, rule)
-        first = after
-    for step in cert["second"]:
-        item += 1
-        rule, after = second_step(second, len(labels), step)
-        if rule:
-            broken(item, rule)
-        second = after
-    search = (Buchi if cert["mode"] == "buchi" else Finite)(first, second)
+        return check_no(first, second, labels, cert["words"], accepts_word if finite else accepts_lasso)
+    first, item = go_through(first, cert["first"], 0, lambda made, step: first_step(made, cert["mode"], step))
+    second, item = go_through(second, cert["second"], item, lambda made, step: second_step(made, len(labels), step))
+    search = (Finite if finite else Buchi)(first, second)
     if cert["form"] == "list":
         check_list(search, cert, item + 1)
         return [b"limit %d" % cert["limit"]], 2
     check_yes(search, cert, item + 1)
-    return [b"included" + finite.encode()], 0
+    return [b"included" + (b", finite" if finite else b"")], 0
 
 
 def check_cross(first, second, labels, cross):
@@ -1299,6 +1573,119 @@ def check_cross(first, second, labels, cross):
     return [b"included by simulation"], 0
 
 
+# ---------------------------------------------------------------- the check of a proof file
+
+
+def trimmed(automaton):
+    return keep(automaton, list(states_in(automaton.endlessly_useful)))
+
+
+def relabelled(automaton, classes):
+    """With the class of each label in its place."""
+    if max(classes, default=-1) + 1 == len(classes):
+        return automaton
+    moves = dict.fromkeys((p, classes[a], q) for p, a, q in automaton.transitions)
+    return Automaton(automaton.states, automaton.initial, moves, automaton.accepting)
+
+
+def have_same_columns(automaton, classes):
+    """Whether the labels of each class have the same moves."""
+    columns = {}
+    for label, number in enumerate(classes):
+        column = automaton.by_label.get(label, [])
+        spend(5 + len(column))
+        if columns.setdefault(number, column) != column:
+            return False
+    return True
+
+
+def through_front(first, second, labels, proof):
+    """What the two automata become, and the last item of the front."""
+    second, item = go_through(second, proof["second"], 0, lambda made, step: second_step(made, labels, step))
+    letters, classes, listed = proof["letters"], proof["map"], proof["accepting"]
+    if not class_shape(labels, letters):
+        broken(item + 1, 3)
+    if not have_same_columns(second, letters):
+        broken(item + 1, 21)
+    first, second = trimmed(relabelled(first, letters)), relabelled(second, letters)
+    if not class_shape(first.states, classes):
+        broken(item + 2, 3)
+    first = merge(first, classes)
+    if any(number >= first.states for number in listed):
+        broken(item + 3, 1)
+    accepting = set_below(first.states, listed)
+    if first.accepting & ~accepting:
+        broken(item + 3, 22)
+    first = trimmed(Automaton(first.states, first.initial, first.transitions, accepting))
+    first, item = go_through(first, proof["first"], item + 3, lambda made, step: first_step(made, "buchi", step))
+    return first, second, item
+
+
+def check_product(first, second, rows, item):
+    """The `rel` line of a product, which has this item, and each of its pairs."""
+    after = {(q, label): target for q, label, target in second.transitions}
+    spend(4 * len(second.transitions))
+    if len(after) < len(second.transitions):
+        broken(item, 23)
+    if second.initial not in rows.get(first.initial, ()):
+        broken(item, 24)
+    for p, ranks in rows.items():
+        for q, rank in ranks.items():
+            item += 1
+            if p >= first.states or q >= second.states:
+                broken(item, 1)
+            moves = first.leaving(p)
+            spend(15 + 6 * len(moves))
+            pairs = [(target, after.get((q, label))) for _, label, target in moves]
+            if not all(to_q in rows.get(to_p, ()) for to_p, to_q in pairs):
+                broken(item, 25)
+            if any(not second.accepts[to_q] and rows[to_p][to_q] + first.accepts[to_p] > rank for to_p, to_q in pairs):
+                broken(item, 26)
+
+
+def check_delayed(first, second, rows, item):
+    """The `rel` line of a delayed simulation, which has this item, and each of its pairs."""
+    if any(p >= first.states or max(codes) >= second.states for p, codes in rows.items()):
+        broken(item, 1)
+    if second.initial not in rows.get(first.initial, ()):
+        broken(item, 24)
+    ranks = {p: Ranks(codes) for p, codes in rows.items()}
+    for p, row in ranks.items():
+        spend(20)
+        wrong = row.by_code.get(1, 0) & ~second.accepting
+        if first.accepts[p]:
+            wrong |= row.by_code.get(0, 0)
+        for _, label, target in first.leaving(p):
+            wrong |= unanswered(second, ranks, label, [target], row)
+        if wrong:
+            least = next(states_in(wrong))
+            broken(item + 1 + list(row.codes).index(least), 27)
+        item += len(row.codes)
+
+
+def check_proof(first, second, labels, proof):
+    """The lines that tell the verdict of a valid proof file, and its status."""
+    if proof["sizes"] != (first.states, second.states, len(labels)):
+        broken(0, 1)
+    if proof["form"] == "no":
+        return check_no(first, second, labels, proof["words"], accepts_by_places)
+    first, second, item = through_front(first, second, len(labels), proof)
+    if proof["form"] == "closed":
+        check_yes(Buchi(first, second), proof, item + 1)
+    else:
+        evidence = check_product if proof["form"] == "product" else check_delayed
+        evidence(first, second, proof["rows"], item + 1)
+    return [b"included"], 0
+
+
+# by the option: the limits of the automata, what the third file is called, and how it is read and checked
+KINDS = {
+    None: (LIMITS, "certificate", read_certificate, check),
+    "--cross": (LIMITS, "certificate", read_cross, check_cross),
+    "--proof": (PROOF_LIMITS, "proof", read_proof, check_proof),
+}
+
+
 def load(name):
     try:
         with open(name, "rb") as file:
@@ -1312,20 +1699,21 @@ def load(name):
 def main(words):
     patient = words[:1] == ["--patient"]
     words = words[1:] if patient else words
-    across = words[:1] == ["--cross"]
-    names = words[1:] if across else words
+    option = words[0] if words and words[0] in KINDS else None
+    names = words[1:] if option else words
     if len(names) != 3:
         print(__doc__, file=sys.stderr)
         return 3
     WORK.allow(float("inf") if patient else FREE_STEPS)
-    reader, checker = (read_cross, check_cross) if across else (read_certificate, check)
+    limits, called, reader, checker = KINDS[option]
     try:
-        first, first_labels = read_automaton(1, load(names[0]))
-        second, second_labels = read_automaton(2, load(names[1]))
+        first, first_labels = Reader(1, limits[1]).read(load(names[0]))
+        second, second_labels = Reader(2, limits[2]).read(load(names[1]))
         evidence = reader(load(names[2]))
         lines, status = checker(*join(first, first_labels, second, second_labels), evidence)
     except Refused as refused:
-        lines, status = [refused.text.encode()], refused.status
+        told = f"{called} {refused.text}" if refused.status == 5 else refused.text
+        lines, status = [told.encode()], refused.status
     sys.stdout.buffer.write(b"".join(line + b"\n" for line in lines))
     return status
 

@@ -1,5 +1,6 @@
 """What the tests share: where things are, the program, calls of the tool, random automata, and acceptance by its
 definition."""
+import contextlib
 import io
 import os
 import pathlib
@@ -15,7 +16,8 @@ DATA, TOOL = TOP / "tests" / "tools" / "data", TOP / "tools" / "rabit-tool"
 sys.dont_write_bytecode = True
 sys.path.insert(0, str(TOP / "tools"))
 
-from rabit_tool import automata, files, main  # noqa: E402  (the path comes first)
+import check_cert  # noqa: E402  (the path comes first)
+from rabit_tool import automata, files, main  # noqa: E402
 
 
 def program():
@@ -64,6 +66,14 @@ def ask(*words, folder=None):
         [program(), *map(str, words)], cwd=folder, stdout=subprocess.PIPE, text=True, timeout=60, check=False
     )
     return done.returncode, done.stdout
+
+
+def second_check(*words):
+    """The status and the output of the second checker on these words, in this process."""
+    output = Output()
+    with contextlib.redirect_stdout(output):
+        status = check_cert.main([str(word) for word in words])
+    return status, output.text()
 
 
 class Case(unittest.TestCase):

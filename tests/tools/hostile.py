@@ -300,3 +300,79 @@ def words():
         yield f"prefix and loop {labels} {states}", (
             text, second, "\n".join(["rabit-cert 1 buchi no", sizes, "prefix " + half, "loop " + half, "end"]) + "\n")
         yield f"word {labels} {states}", (text, second, "\n".join(["rabit-cert 1 finite no", sizes, "word " + word, "end"]) + "\n")
+
+
+def proof(form, sizes, rest, log1=(), log2=(), letters=None, classes=None, accepting=None):
+    """A proof file with these logs, each a list of steps of lines, and what is behind them; what is not given is as it is."""
+    front = []
+    for name, numbers in (("letters", letters or range(sizes[2])), ("map", classes or range(sizes[0])), ("accepting", accepting)):
+        numbers = range(sizes[0]) if numbers is None else numbers
+        front.append(" ".join([name, *map(str, numbers)]))
+    logs = [[f"{name} {len(log)}", *(line for step in log for line in step)] for name, log in (("log2", log2), ("log1", log1))]
+    lines = [f"rabit-proof 1 {form}", "sizes {} {} {}".format(*sizes), *logs[0], *front, *logs[1], *rest]
+    return "\n".join([*lines, "end"]) + "\n"
+
+
+def proof_files():
+    """By name: the three texts, of which the last is a proof file."""
+    # pairs of a state with many moves, and pairs with many ranks
+    many = 2900
+    hub = automaton([(0, 0, q) for q in range(1, many)] + [(q, 0, 0) for q in range(1, many)], range(many))
+    for count in (300, 2040):
+        ring = automaton([(0, 0, 0), *((q, 0, 0) for q in range(1, count))], range(count))
+        rows = [f"rel {many}", "row 0 " + " ".join(f"{q} 0" for q in range(count)), *(f"row {p} 0 0" for p in range(1, many))]
+        yield f"a product of a state with many moves {count}", (hub, ring, proof("product", (many, count, 1), rows))
+        rows[1:] = [row.replace(" 0 0", " 0 1") for row in rows[1:]]
+        rows[1] = "row 0 " + " ".join(f"{q} {q + 1}" for q in range(count))
+        yield f"a simulation of a state with many moves {count}", (hub, ring, proof("delayed", (many, count, 1), rows))
+    some = 60
+    moves = at_random(some, 20, 4)
+    text = automaton(moves, range(some))
+    rows = [f"rel {some}", *(f"row {p} " + " ".join(f"{q} {1 + (q * 7 + p) % 90}" for q in range(some)) for p in range(some))]
+    yield "a simulation with many ranks", (text, text, proof("delayed", (some, some, 4), rows))
+    # long lassos
+    rnd = random.Random(6)
+    for states, each, labels, size in ((2048, 1, 2, 28000), (1500, 2, 2, 28000), (400, 7, 2, 28000), (400, 1, 16, 20000), (2048, 1, 2, 40)):
+        second = automaton(at_random(states, each, labels)[:6000], [1])
+        loop = " ".join(str(rnd.randrange(labels)) for _ in range(size))
+        first = automaton([(0, a, 0) for a in range(labels)], [0])
+        yield f"loop {states} {each} {labels} {size}", (first, second, proof_no((1, states, labels), "", loop))
+        yield f"loop of the first {states} {each} {labels} {size}", (second, first, proof_no((states, 1, labels), "", loop))
+    states = 3900
+    chain = automaton([(0, 0, 0), *((q, 0, q + 1) for q in range(states - 1)), *((0, 0, q) for q in range(1, 900))], [states - 1])
+    yield "loop of a long chain", (chain, EMPTY, proof_no((states, 3, 1), "0 " * 9000, "0 " * 20000))
+    # logs of large automata
+    states = 3000
+    moves = [(0, 0, q) for q in range(1, states)] + [(q, 0, 0) for q in range(1, states)]
+    text, sizes = automaton(moves, range(states)), (states, 1, 1)
+    cuts = [["cut 1 6", "gone 0 1", "rel 2", "row 0 0 0", f"row {q} {q + 1} {q + 1}"] for q in range(1, 700)]
+    yield "many cuts of a large one", (text, LOOP, proof("product", sizes, ["rel 0"], log1=cuts))
+    step = ["cut 1 6", "gone 0 1", "rel 3", f"row 0 0 {states - 1}", f"row 1 1 {states - 1}", f"row 2 1 {states - 1}"]
+    yield "long runs of a large one", (text, LOOP, proof("product", sizes, ["rel 0"], log1=[step] * 500))
+    block = [f"rel {states}", *(f"row {p} 0 {states - 1}" for p in range(states))]
+    yield "all pairs of a large one", (text, LOOP, proof("product", sizes, ["rel 0"], log1=[["cut 1 2", "gone 0 1", *block]]))
+    block = [f"rel {states}", "row 0 0 0", *(f"row {p} {min(p + 1, states - 1)} {min(p + 1, states - 1)}" for p in range(1, states))]
+    gone = "gone " + " ".join(f"{t} {t + 1}" for t in range(1500))
+    yield "closure of a large one", (text, LOOP, proof("product", sizes, ["rel 0"], log1=[["cut 1 1", gone, *block]]))
+    wide = [(0, 0, q) for q in range(1, 2100)] + [(q, 0, 0) for q in range(1, 2100)] + [(1, 0, q) for q in range(2, 1700)]
+    step = ["cut 1 6", "gone 0 1", "rel 1", "row 0 1 1"]
+    yield "wide answers of a large one", (automaton(wide, range(2100)), LOOP, proof("product", (2100, 1, 1), ["rel 0"], log1=[step] * 900))
+    few = [["trim " + " ".join(map(str, range(states - 1)))]] * 3
+    yield "trims of a large one", (text, LOOP, proof("product", sizes, ["rel 0"], log1=few))
+    # elements over a second automaton with many states
+    for states, each in ((2048, 2), (1000, 5)):
+        moves = at_random(states, each, 1)
+        second, first = automaton(moves, range(states)), automaton([(0, 0, 0)], [0])
+        made = ["live base 0", *(f"live next {n} 0" for n in range(1500))]
+        steps = [f"step {n} 0" for n in range(len(made))]
+        rest = ["rel 0", f"elements {len(made)}", *made, "cover 0", *steps]
+        yield f"elements of large graphs {states}", (first, second, proof("closed", (1, states, 1), rest))
+        every = [f"rel {states}", *(f"row {q} 0 {states - 1}" for q in range(states))]
+        made = ["live base 0", *["under 0 base 0"] * 1500]
+        rest = [*every, f"elements {len(made)}", *made, "cover 0", "step 0 0"]
+        yield f"covers of large graphs {states}", (first, second, proof("closed", (1, states, 1), rest))
+
+
+def proof_no(sizes, prefix, loop):
+    lines = ["rabit-proof 1 no", "sizes {} {} {}".format(*sizes), f"prefix {prefix}".rstrip(), f"loop {loop}".rstrip(), "end"]
+    return "\n".join(lines) + "\n"

@@ -1,6 +1,4 @@
 """The second checker: its test of stability by the definition, and its count of work on files made to cost much."""
-import contextlib
-import importlib.util
 import math
 import random
 import resource
@@ -9,19 +7,9 @@ import sys
 import unittest
 
 import hostile
-from helping import TOP, Case, Output
+from helping import TOP, Case, second_check
 
-SPEC = importlib.util.spec_from_file_location("check_cert", TOP / "tools" / "check_cert.py")
-check_cert = importlib.util.module_from_spec(SPEC)
-SPEC.loader.exec_module(check_cert)
-
-
-def checked(words):
-    """The status and what the checker prints."""
-    output = Output()
-    with contextlib.redirect_stdout(output):
-        status = check_cert.main(words)
-    return status, output.text()
+import check_cert  # isort: skip  (which helping puts on the path)
 
 
 def is_answered(made, look, block, matches, state, ends, left, turned):
@@ -107,8 +95,7 @@ class Work(Case):
         kept = check_cert.FREE_STEPS, check_cert.STEPS_PER_BYTE
         check_cert.FREE_STEPS, check_cert.STEPS_PER_BYTE = steps, 0
         try:
-            words = [*options, *(["--cross"] if len(texts) > 3 else []), *map(str, names)]
-            status, printed = checked(words)
+            status, printed = second_check(*options, *(["--cross"] if len(texts) > 3 else []), *names)
         finally:
             check_cert.FREE_STEPS, check_cert.STEPS_PER_BYTE = kept
         return status, printed, check_cert.WORK.left

@@ -1,13 +1,10 @@
 """What spin and lbt make of formulas of linear temporal logic, imported: both accept the same, and what the formula
 says."""
-import contextlib
 import random
 import subprocess
 import unittest
 
-from helping import DATA, Case, Output, ask, call, needs, needs_program
-
-import check_cert  # isort: skip  (which helping puts on the path)
+from helping import DATA, Case, ask, call, needs, needs_program, second_check
 
 OPERATORS = {"&": "&&", "|": "||", "U": "U", "V": "V", "i": "->", "e": "<->"}
 PROPOSITIONS = ("p0", "p1", "p2")
@@ -119,10 +116,7 @@ class Translators(Case):
     def check(self, first, second, certificate, answer):
         """Asserts that both checkers accept the certificate of this answer, a status and what was printed."""
         self.assertEqual(ask("check", first, second, certificate), answer)
-        output = Output()
-        with contextlib.redirect_stdout(output):
-            status = check_cert.main([str(first), str(second), str(certificate)])
-        self.assertEqual((status, output.text()), answer)
+        self.assertEqual(second_check(first, second, certificate), answer)
 
     def check_formula(self, kind, spin, lbt):
         one, other, not_one, not_other = self.translated(spin, lbt)
