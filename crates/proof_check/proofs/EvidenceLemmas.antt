@@ -20,7 +20,6 @@ use Rattle.cert_value.specs.declared.types.YesBody.{YesBody}
 use Rattle.cert_value.specs.declared.types.FirstStep.{FirstStep}
 use Rattle.cert_value.specs.declared.types.SecondStep.{SecondStep}
 use Rattle.cert_value.specs.WellFormed.{is_block, is_short, are_short, is_element, are_steps}
-use Rattle.cert_text.specs.declared.parts.Closed.{Closed as ClosedList}
 use Rattle.cert_check.specs.Inclusion.{inclusion_checks}
 use Rattle.cert_check.proofs.ClosedLemmas.{included}
 use Rattle.log_check.specs.declared.faults.Refusal.{Refusal}
@@ -36,10 +35,10 @@ use Rattle.proof_text.specs.declared.types.ProofBody.TheVariants.{No, Yes}
 use Rattle.proof_text.specs.declared.types.Front.{Front}
 use Rattle.proof_text.specs.declared.types.Evidence.{Evidence}
 use Rattle.proof_text.specs.declared.types.Evidence.TheVariants.{Product, Delayed, Closed}
-use Rattle.proof_text.specs.ProofText.{ProofFormed, is_front, is_evidence, is_closed_list, is_proof_body}
+use Rattle.proof_text.specs.ProofText.{ProofFormed, is_front, is_evidence, has_no_steps, is_closed_list, is_proof_body}
 use Rattle.proof_check.specs.Pairs.{ranked_pairs, delayed_pairs}
 use Rattle.proof_front.specs.Front.{evidence_item}
-use Rattle.proof_check.specs.Rules.{product_pair_checks, product_checks, delayed_pair_checks, delayed_checks, yes_body, evidence_checks, body_stage, yes_stage, proof_stage, HasProofSizes, BodySaysTruly, ProofSaysTruly}
+use Rattle.proof_check.specs.Rules.{product_pair_checks, product_checks, delayed_pair_checks, delayed_checks, evidence_checks, body_stage, yes_stage, proof_stage, HasProofSizes, BodySaysTruly, ProofSaysTruly}
 use Rattle.proof_check.specs.Laws.{KeptYesIncludes, KeptNoSeparates}
 use Rattle.proof_front.proofs.TruthLemmas.{kept_front, front_makes}
 
@@ -67,36 +66,26 @@ delayed_kept A B pairs item all = record {
   right = right_by_numbers A B pairs (λ i lt. (each_of (delayed_pair_checks A B pairs (item + 1)) i pairs (delayed_pair 0 0 None) lt all.1.1).0);
 }
 
--- A closed list with logs, as the body of a certificate.
-abbrev pub body_with : List FirstStep → List SecondStep → ClosedList → YesBody
-body_with first second k = record {
-  first = first;
-  second = second;
-  order = k.order;
-  elements = k.elements;
-  cover = k.cover;
-  steps = k.steps;
-}
-
 -- What the form of a closed list tells.
-pub record ClosedParts (k : ClosedList) : Type 0 where
+pub record ClosedParts (k : YesBody) : Type 0 where
   pub few : length k.elements < 10 ^ 9
   pub elements : list_all (is_element Buchi) k.elements ≡ true
   pub steps : are_steps 0 k.elements k.steps ≡ true
 
-pub closed_parts : (k : ClosedList) → is_closed_list k ≡ true → ClosedParts k
+pub closed_parts : (k : YesBody) → is_closed_list k ≡ true → ClosedParts k
 closed_parts k formed =
     let rest = are_short k.cover && are_steps 0 k.elements k.steps in
-    let a = and_parts (is_block k.order) (is_short (length k.elements) && (list_all (is_element Buchi) k.elements && rest)) formed in
+    let bare = and_parts (has_no_steps k) (is_block k.order && (is_short (length k.elements) && (list_all (is_element Buchi) k.elements && rest))) formed in
+    let a = and_parts (is_block k.order) (is_short (length k.elements) && (list_all (is_element Buchi) k.elements && rest)) bare.1 in
     let b = and_parts (is_short (length k.elements)) (list_all (is_element Buchi) k.elements && rest) a.1 in
     let c = and_parts (list_all (is_element Buchi) k.elements) rest b.1 in
     let d = and_parts (are_short k.cover) (are_steps 0 k.elements k.steps) c.1 in
     record { few = grind (arith, b.0); elements = c.0; steps = d.1 }
 
-closed_includes : (A B : Automaton) (k : ClosedList) (item : ℕ) → IsAutomaton B → is_closed_list k ≡ true → AllHold (inclusion_checks Buchi (yes_body k) item A B) → Includes A B Buchi
+closed_includes : (A B : Automaton) (k : YesBody) (item : ℕ) → IsAutomaton B → is_closed_list k ≡ true → AllHold (inclusion_checks Buchi k item A B) → Includes A B Buchi
 closed_includes A B k item valid formed all =
     let parts = closed_parts k formed in
-    included Buchi item A B (yes_body k) valid parts.elements parts.steps all
+    included Buchi item A B k valid parts.elements parts.steps all
 
 pub evidence_includes : (A B : Automaton) (item : ℕ) (e : Evidence) → IsAutomaton B → is_evidence e ≡ true → AllHold (evidence_checks A B item e) → Includes A B Buchi
 evidence_includes A B item (Product block) valid formed all = ranked_product_includes A B (ranked_pairs block) valid (product_kept A B (ranked_pairs block) item all)

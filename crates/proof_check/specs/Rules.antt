@@ -5,7 +5,6 @@ use Rattle.auto_core.specs.Accept.{Includes, SeparatesLasso}
 use Rattle.auto_core.specs.declared.parts.Mode.TheVariants.{Buchi}
 use Rattle.ba_format.specs.declared.parts.Joined.{Joined}
 use Rattle.cert_value.specs.declared.types.YesBody.{YesBody}
-use Rattle.cert_text.specs.declared.parts.Closed.{Closed as ClosedList}
 use Rattle.product_laws.specs.declared.RankedPair.{RankedPair}
 use Rattle.product_laws.specs.Ranked.{IsDeterministic, HasInitialPair, IsPairOfStates, CoversMoves, RanksGoOn}
 use Rattle.delayed_game.specs.Across.{HoldsPlacePair, AreWithin}
@@ -73,22 +72,11 @@ refusal_in_proofs item (Range number) = record { rule = 1; item = item }
 refusal_in_proofs item Start = record { rule = 24; item = item }
 refusal_in_proofs item (Answer number) = record { rule = 27; item = item + 1 + number }
 
--- A closed list as the body of a certificate without steps.
-abbrev pub yes_body : ClosedList → YesBody
-yes_body list = record {
-  first = [];
-  second = [];
-  order = list.order;
-  elements = list.elements;
-  cover = list.cover;
-  steps = list.steps;
-}
-
 -- The evidence; its first item has this number.
 abbrev pub evidence_checks : Automaton → Automaton → ℕ → Evidence → List RuleCheck
 evidence_checks A B item (Product block) = product_checks A B (ranked_pairs block) item
 evidence_checks A B item (Delayed block) = delayed_checks A B (delayed_pairs block) item
-evidence_checks A B item (Closed list) = inclusion_checks Buchi (yes_body list) item A B
+evidence_checks A B item (Closed list) = inclusion_checks Buchi list item A B
 
 -- ---- the whole proof
 

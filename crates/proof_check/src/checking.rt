@@ -45,15 +45,15 @@ fn check_evidence(
     first: &Auto,
     second: &Auto,
     item: u32,
-    evidence: Evidence,
+    evidence: &Evidence,
 ) -> Result<(), CheckFault>
-    requires formed { is_evidence evidence ≡ true }
+    requires formed { is_evidence evidence.now ≡ true }
     requires low { item ≤ 2 * 10 ^ 9 + 4 }
-    ensures { Tells (evidence_checks first.now second.now item evidence) result }
+    ensures { Tells (evidence_checks first.now second.now item evidence.now) result }
 {
     match evidence {
-        Evidence::Product(block) => check_product(alloc, first, second, &block, item),
-        Evidence::Delayed(block) => check_delayed(alloc, first, second, &block, item),
+        Evidence::Product(block) => check_product(alloc, first, second, block, item),
+        Evidence::Delayed(block) => check_delayed(alloc, first, second, block, item),
         Evidence::Closed(list) => check_closed(alloc, first, second, list, item),
     }
 }
@@ -63,12 +63,12 @@ fn check_yes(
     alloc: Global,
     pair: &Joined,
     front: &Front,
-    evidence: Evidence,
+    evidence: &Evidence,
 ) -> Result<(), CheckFault>
     requires front { is_front front.now ≡ true }
-    requires evidence { is_evidence evidence ≡ true }
+    requires evidence { is_evidence evidence.now ≡ true }
     requires labels { pair.now.first.labels ≡ pair.now.second.labels }
-    ensures { TellsStage (yes_stage pair.now front.now evidence) result }
+    ensures { TellsStage (yes_stage pair.now front.now evidence.now) result }
 {
     let ends = both_become(alloc, &pair.first, &pair.second, front)?;
     let steps = front.second.as_slice().len() as u32 + front.first.as_slice().len() as u32;
@@ -76,32 +76,31 @@ fn check_yes(
 }
 
 /// Tests what the proof claims.
-fn check_body(alloc: Global, pair: &Joined, body: ProofBody) -> Result<(), CheckFault>
-    requires formed { is_proof_body body ≡ true }
+fn check_body(alloc: Global, pair: &Joined, body: &ProofBody) -> Result<(), CheckFault>
+    requires formed { is_proof_body body.now ≡ true }
     requires labels { pair.now.first.labels ≡ pair.now.second.labels }
-    ensures { TellsStage (body_stage pair.now body) result }
+    ensures { TellsStage (body_stage pair.now body.now) result }
 {
     match body {
-        ProofBody::No(lasso) => check_no(alloc, pair, &lasso),
-        ProofBody::Yes(front, evidence) => check_yes(alloc, pair, &front, evidence),
+        ProofBody::No(lasso) => check_no(alloc, pair, lasso),
+        ProofBody::Yes(front, evidence) => check_yes(alloc, pair, front, evidence),
     }
 }
 
 /// Checks that the proof keeps all its rules for the two automata, or tells the first rule that it
 /// breaks, or want of memory. What a proof says that keeps them is true of the two automata. The
-/// proof has a text, and is taken, so that no part of it need be copied; both automata have as many
-/// labels as `pair.labels` has texts.
-pub fn check(alloc: Global, pair: &Joined, proof: Proof) -> Result<(), CheckFault>
-    requires formed { ProofFormed proof }
+/// proof has a text; both automata have as many labels as `pair.labels` has texts.
+pub fn check(alloc: Global, pair: &Joined, proof: &Proof) -> Result<(), CheckFault>
+    requires formed { ProofFormed proof.now }
     requires first_labels { pair.now.first.labels ≡ length pair.now.labels }
     requires second_labels { pair.now.second.labels ≡ length pair.now.labels }
-    ensures valid { IfOk result (λ _. KeepsProofRules pair.now proof) }
-    ensures truth { IfOk result (λ _. ProofSaysTruly pair.now proof) }
+    ensures valid { IfOk result (λ _. KeepsProofRules pair.now proof.now) }
+    ensures truth { IfOk result (λ _. ProofSaysTruly pair.now proof.now) }
     ensures refused { (refusal : Refusal) → result ≡ Err (CheckFault.Refused refusal)
-        → BreaksProofRule pair.now proof refusal }
+        → BreaksProofRule pair.now proof.now refusal }
 {
-    if !has_sizes(pair, &proof) {
+    if !has_sizes(pair, proof) {
         return Err(CheckFault::Refused(Refusal { rule: 1, item: 0 }));
     }
-    check_body(alloc, pair, proof.body)
+    check_body(alloc, pair, &proof.body)
 }

@@ -12,7 +12,7 @@ pub fn kept_front_makes_automata()
     ensures { KeptFrontMakesAutomata }
 {}
 
-/// A front makes one thing at most, or one rule is the first that it breaks.
+/// A front makes at most one thing and breaks at most one rule first, and never both.
 pub fn front_has_one_outcome()
     ensures { FrontHasOneOutcome }
 {}

@@ -24,7 +24,7 @@ abbrev body_for : ProofForm → ProofBody
 body_for (form.No) = body.No (record { prefix = []; turn = 0 ∷ [] })
 body_for (form.Product) = body.Yes bare_front (evidence.Product (record { rows = [] }))
 body_for (form.Delayed) = body.Yes bare_front (evidence.Delayed (record { rows = [] }))
-body_for (form.Closed) = body.Yes bare_front (evidence.Closed (record { order = record { rows = [] }; elements = []; cover = []; steps = [] }))
+body_for (form.Closed) = body.Yes bare_front (evidence.Closed (record { first = []; second = []; order = record { rows = [] }; elements = []; cover = []; steps = [] }))
 
 abbrev small : ProofForm → Proof
 small f = record { first_states = 0; second_states = 0; labels = 0; body = body_for f }

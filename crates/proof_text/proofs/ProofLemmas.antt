@@ -16,7 +16,7 @@ use Rattle.proof_text.specs.declared.types.ProofBody.{ProofBody}
 use Rattle.proof_text.specs.declared.types.ProofBody.TheVariants as body
 use Rattle.proof_text.specs.declared.types.Front.{Front}
 use Rattle.proof_text.specs.declared.types.Evidence.TheVariants as evidence
-use Rattle.proof_text.specs.ProofText.{ProofFormed, proof_lines}
+use Rattle.proof_text.specs.ProofText.{ProofFormed, without_logs, proof_lines}
 use Rattle.proof_text.specs.ProofGrammar.{is_proof_heading, proof_heading_in, front_of, read_front_end, read_accepting, read_map, read_letters, read_front, read_proof_body, proof_of, read_after_sizes, read_proof_sizes, read_proof}
 use Rattle.proof_text.proofs.ProofTextLemmas.{plain_proof, text_then, reading_back}
 
@@ -44,8 +44,8 @@ body_reads (form.Delayed) next all =
     front_reads (λ front. read_rank_block 1 (λ pairs. next (body.Yes front (evidence.Delayed pairs)))) (λ front.
     rank_block_reads 1 (λ pairs. next (body.Yes front (evidence.Delayed pairs))) (λ pairs. all (body.Yes front (evidence.Delayed pairs))))
 body_reads (form.Closed) next all =
-    front_reads (λ front. read_closed 2 mode.Buchi (λ closed. next (body.Yes front (evidence.Closed closed)))) (λ front.
-    closed_reads 2 mode.Buchi (λ closed. next (body.Yes front (evidence.Closed closed))) (λ closed. all (body.Yes front (evidence.Closed closed))))
+    front_reads (λ front. read_closed 2 mode.Buchi (λ closed. next (body.Yes front (evidence.Closed (without_logs closed))))) (λ front.
+    closed_reads 2 mode.Buchi (λ closed. next (body.Yes front (evidence.Closed (without_logs closed)))) (λ closed. all (body.Yes front (evidence.Closed (without_logs closed)))))
 
 proof_read : Reader true read_proof
 proof_read =

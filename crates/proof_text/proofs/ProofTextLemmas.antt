@@ -1,7 +1,10 @@
 -- The text of a proof is read as it, and nothing else is.
-use Rattle.std.proofs.Common.{◌≡◌, ℕ, List, [], ◌∷◌, ◌++◌, length, Bool, true, false, decimal, if◌then◌else◌, Ok, Err, refl, sym, ap, subst, ◌∙◌, append_assoc, append-nil}
+use Rattle.std.proofs.Common.{◌≡◌, ℕ, List, [], ◌∷◌, ◌++◌, length, Bool, true, false, decimal, if◌then◌else◌, Ok, Err, refl, sym, ap, ap₂, subst, ◌∙◌, append_assoc, append-nil}
 use Rattle.std.specs.List.{list_all}
-use Rattle.std.proofs.lemmas.Bool.{and_parts, and_from}
+use Rattle.std.proofs.lemmas.Bool.{and_parts, and_from, false≢true}
+use Rattle.cert_value.specs.declared.types.FirstStep.{FirstStep}
+use Rattle.cert_value.specs.declared.types.SecondStep.{SecondStep}
+use Rattle.cert_value.specs.declared.types.YesBody.{YesBody}
 use Rattle.std.proofs.Common.{⊎_elim, inl, inr, ◌⊎◌}
 use Rattle.auto_core.specs.declared.parts.Mode.TheVariants as mode
 use Rattle.cert_value.specs.declared.keywords.Keyword.TheVariants as keyword
@@ -32,7 +35,7 @@ use Rattle.proof_text.specs.declared.types.ProofBody.TheVariants as body
 use Rattle.proof_text.specs.declared.types.Front.{Front}
 use Rattle.proof_text.specs.declared.types.Evidence.{Evidence}
 use Rattle.proof_text.specs.declared.types.Evidence.TheVariants as evidence
-use Rattle.proof_text.specs.ProofText.{is_front, is_closed_list, is_evidence, is_proof_body, has_proof_text, proof_form_word, proof_form_of, proof_heading, class_lines, front_lines, evidence_lines, proof_body_lines, proof_lines, proof_text}
+use Rattle.proof_text.specs.ProofText.{is_front, without_logs, are_no_steps, has_no_steps, is_closed_list, is_evidence, is_proof_body, has_proof_text, proof_form_word, proof_form_of, proof_heading, class_lines, front_lines, evidence_lines, proof_body_lines, proof_lines, proof_text}
 use Rattle.proof_text.specs.ProofGrammar.{proof_heading_places, is_proof_heading, proof_heading_in, front_of, read_front_end, read_accepting, read_map, read_letters, read_front, read_proof_body, proof_of, read_after_sizes, read_proof_sizes, read_proof, proof_reading}
 use Rattle.proof_text.specs.ProofLaw.{OneProofText}
 
@@ -123,6 +126,16 @@ front_fw f next rest e h =
     (sorted_fw keyword.Accepting tail.Numbers (λ ns. ns) f.accepting kept.0 kept.1 refl) some_end
     ∙ first_log_fw 2 f.first (λ firsts. next (front_of f.second f.letters f.map f.accepting firsts)) rest l.0 l.1 h
 
+-- A list without steps in its logs is what its parts make.
+bare_list : (k : YesBody) → has_no_steps k ≡ true → without_logs (record { order = k.order; elements = k.elements; cover = k.cover; steps = k.steps }) ≡ k
+bare_list k bare = go k.first k.second refl refl
+  where
+    go : (firsts : List FirstStep) (seconds : List SecondStep) → k.first ≡ firsts → k.second ≡ seconds
+        → without_logs (record { order = k.order; elements = k.elements; cover = k.cover; steps = k.steps }) ≡ k
+    go [] [] p q = ap₂ (λ f s. record { first = f; second = s; order = k.order; elements = k.elements; cover = k.cover; steps = k.steps }) (sym p) (sym q)
+    go (x ∷ xs) seconds p q = absurd (false≢true (subst (λ f. are_no_steps f k.second ≡ true) p bare))
+    go [] (x ∷ xs) p q = absurd (false≢true (subst (λ s. are_no_steps [] s ≡ true) q (subst (λ f. are_no_steps f k.second ≡ true) p bare)))
+
 -- What it claims is read as it.
 yes_fw : {C : Type 0} (f : Front) (e : Evidence) (next : On C ProofBody) (rest : List Line) → is_front f ≡ true → is_evidence e ≡ true → has_some rest ≡ true
     → read_proof_body (proof_form_of (body.Yes f e)) next ((front_lines f ++ evidence_lines e) ++ rest) ≡ next (body.Yes f e) rest
@@ -137,16 +150,18 @@ yes_fw f (evidence.Delayed pairs) next rest a b h =
     ∙ front_fw f k (rank_block_lines pairs ++ rest) a (some_append (rank_block_lines pairs) rest h)
     ∙ rank_block_fw 1 pairs (λ pairs. next (body.Yes f (evidence.Delayed pairs))) rest b h
 yes_fw f (evidence.Closed k) next rest a b h =
-    let c = and_parts (is_block k.order) _ b in
+    let bare = and_parts (has_no_steps k) _ b in
+    let c = and_parts (is_block k.order) _ bare.1 in
     let d = and_parts (is_short (length k.elements)) _ c.1 in
     let g = and_parts (list_all (is_element mode.Buchi) k.elements) _ d.1 in
     let l = and_parts (are_short k.cover) _ g.1 in
-    let next_part : On _ Front = λ front. read_closed 2 mode.Buchi (λ closed. next (body.Yes front (evidence.Closed closed))) in
+    let next_part : On _ Front = λ front. read_closed 2 mode.Buchi (λ closed. next (body.Yes front (evidence.Closed (without_logs closed)))) in
     let O = block_lines 2 k.order in
     let L = closed_lines k.elements k.cover k.steps in
     ap (λ ls. read_front next_part ls) (append_assoc (front_lines f) (O ++ L) rest ∙ ap (λ ls. front_lines f ++ ls) (append_assoc O L rest))
     ∙ front_fw f next_part (O ++ (L ++ rest)) a (some_append O (L ++ rest) (some_append L rest h))
-    ∙ closed_fw 2 mode.Buchi k.order k.elements k.cover k.steps (λ closed. next (body.Yes f (evidence.Closed closed))) rest c.0 d.0 g.0 l.0 l.1 h
+    ∙ closed_fw 2 mode.Buchi k.order k.elements k.cover k.steps (λ closed. next (body.Yes f (evidence.Closed (without_logs closed)))) rest c.0 d.0 g.0 l.0 l.1 h
+    ∙ ap (λ y. next (body.Yes f (evidence.Closed y)) rest) (bare_list k bare.0)
 
 body_fw : {C : Type 0} (b : ProofBody) (next : On C ProofBody) (rest : List Line) → is_proof_body b ≡ true → has_some rest ≡ true
     → read_proof_body (proof_form_of b) next (proof_body_lines b ++ rest) ≡ next b rest
@@ -244,17 +259,17 @@ body_bw (form.Delayed) next ls c e =
       on = t.on;
     }
 body_bw (form.Closed) next ls c e =
-    let f = front_bw (λ front. read_closed 2 mode.Buchi (λ closed. next (body.Yes front (evidence.Closed closed)))) ls c e in
-    let t = closed_bw 2 mode.Buchi (λ closed. next (body.Yes f.item (evidence.Closed closed))) f.rest c f.on in
+    let f = front_bw (λ front. read_closed 2 mode.Buchi (λ closed. next (body.Yes front (evidence.Closed (without_logs closed))))) ls c e in
+    let t = closed_bw 2 mode.Buchi (λ closed. next (body.Yes f.item (evidence.Closed (without_logs closed)))) f.rest c f.on in
     let L = block_lines 2 t.item.order ++ closed_lines t.item.elements t.item.cover t.item.steps in
-    let closed : is_closed_list t.item ≡ true =
+    let closed : is_closed_list (without_logs t.item) ≡ true =
     and_from (is_block t.item.order) _ t.fine.order
     (and_from (is_short (length t.item.elements)) _ t.fine.count
     (and_from (list_all (is_element mode.Buchi) t.item.elements) _ t.fine.elements (and_from (are_short t.item.cover) _ t.fine.cover t.fine.steps))) in
     record {
-      item = body.Yes f.item (evidence.Closed t.item);
+      item = body.Yes f.item (evidence.Closed (without_logs t.item));
       rest = t.rest;
-      fine = (and_from (is_front f.item) (is_closed_list t.item) f.fine closed, refl);
+      fine = (and_from (is_front f.item) (is_closed_list (without_logs t.item)) f.fine closed, refl);
       cut = f.cut ∙ ap (λ y. front_lines f.item ++ y) t.cut ∙ sym (append_assoc (front_lines f.item) L t.rest);
       on = t.on;
     }

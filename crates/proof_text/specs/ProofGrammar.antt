@@ -22,7 +22,7 @@ use Rattle.proof_text.specs.declared.types.ProofBody.{ProofBody}
 use Rattle.proof_text.specs.declared.types.ProofBody.TheVariants as body
 use Rattle.proof_text.specs.declared.types.Front.{Front}
 use Rattle.proof_text.specs.declared.types.Evidence.TheVariants as evidence
-use Rattle.proof_text.specs.ProofText.{proof_form_word}
+use Rattle.proof_text.specs.ProofText.{proof_form_word, without_logs}
 
 -- The places of the first line.
 abbrev pub proof_heading_places : ProofForm → List Place
@@ -96,7 +96,7 @@ read_delayed next =
 abbrev pub read_closed_list : {C : Type 0} → On C ProofBody → List Line → LinesOutcome C
 read_closed_list next =
     read_front (λ front.
-    read_closed 2 mode.Buchi (λ closed. next (body.Yes front (evidence.Closed closed))))
+    read_closed 2 mode.Buchi (λ closed. next (body.Yes front (evidence.Closed (without_logs closed)))))
 
 -- The lines between the line of sizes and the last line.
 abbrev pub read_proof_body : {C : Type 0} → ProofForm → On C ProofBody → List Line → LinesOutcome C

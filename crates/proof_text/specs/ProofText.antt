@@ -1,5 +1,5 @@
 -- Which proofs have a text, and the text.
-use Rattle.std.specs.Prelude.{ℕ, List, [], ◌∷◌, ◌++◌, length, Bool, ◌&&◌, IsTrue}
+use Rattle.std.specs.Prelude.{ℕ, List, [], ◌∷◌, ◌++◌, length, Bool, true, false, ◌&&◌, IsTrue}
 use Rattle.std.specs.List.{list_all}
 use Rattle.auto_core.specs.declared.parts.Mode.TheVariants as mode
 use Rattle.auto_core.specs.declared.parts.Lasso.{Lasso}
@@ -7,6 +7,9 @@ use Rattle.cert_value.specs.declared.keywords.Keyword.{Keyword}
 use Rattle.cert_value.specs.declared.keywords.Keyword.TheVariants as keyword
 use Rattle.cert_value.specs.Text.{Line, spelled, numbers, sizes_line, first_lines, second_lines, block_lines, rank_block_lines, closed_lines, end_line, text_of}
 use Rattle.cert_value.specs.WellFormed.{is_short, are_short, are_kept, is_first_step, is_second_step, is_block, is_rank_block, is_element, are_steps, is_lasso}
+use Rattle.cert_value.specs.declared.types.FirstStep.{FirstStep}
+use Rattle.cert_value.specs.declared.types.SecondStep.{SecondStep}
+use Rattle.cert_value.specs.declared.types.YesBody.{YesBody}
 use Rattle.cert_text.specs.declared.parts.Closed.{Closed}
 use Rattle.proof_text.specs.declared.types.Proof.{Proof}
 use Rattle.proof_text.specs.declared.types.ProofForm.{ProofForm}
@@ -28,13 +31,34 @@ is_front f =
     && (are_kept f.accepting
     && (is_short (length f.first) && list_all is_first_step f.first)))))
 
+-- The closed list as the body of a yes without a step in its logs.
+abbrev pub without_logs : Closed → YesBody
+without_logs k = record {
+  first = [];
+  second = [];
+  order = k.order;
+  elements = k.elements;
+  cover = k.cover;
+  steps = k.steps;
+}
+
+-- Neither log has a step.
+abbrev pub are_no_steps : List FirstStep → List SecondStep → Bool
+are_no_steps [] [] = true
+are_no_steps firsts seconds = false
+
+-- The same of the logs of a body.
+abbrev pub has_no_steps : YesBody → Bool
+has_no_steps k = are_no_steps k.first k.second
+
 -- What a closed list of elements is of, as in a certificate of a Büchi file.
-abbrev pub is_closed_list : Closed → Bool
+abbrev pub is_closed_list : YesBody → Bool
 is_closed_list k =
-    is_block k.order
+    has_no_steps k
+    && (is_block k.order
     && (is_short (length k.elements)
     && (list_all (is_element mode.Buchi) k.elements
-    && (are_short k.cover && are_steps 0 k.elements k.steps)))
+    && (are_short k.cover && are_steps 0 k.elements k.steps))))
 
 -- The evidence: pairs are rows with ranks, with no label between.
 abbrev pub is_evidence : Evidence → Bool

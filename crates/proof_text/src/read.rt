@@ -7,15 +7,15 @@ ghost use Rattle.cert_text.specs.Grammar.{next_line};
 ghost use Rattle.cert_text.specs.LinesLeft.{past, ReadsOn};
 ghost use Rattle.cert_text.specs.Told.{Told};
 ghost use Rattle.proof_text.specs.declared.types.Proof.{Proof};
-ghost use Rattle.proof_text.specs.ProofText.{ProofFormed, proof_text};
+ghost use Rattle.proof_text.specs.ProofText.{ProofFormed, proof_text, without_logs};
 ghost use Rattle.proof_text.specs.ProofGrammar.{FirstProofFault, proof_heading_in, read_front, read_product, read_delayed, read_closed_list, read_proof_body, proof_reading};
 
 use crate::heading::heading_in;
 use crate::types::{Evidence, Front, Proof, ProofBody, ProofForm};
-use auto_core::Mode;
+use auto_core::{List, Mode};
 use cert_line::Tail;
-use cert_text::{CertReadFault, Lines, placed};
-use cert_value::Keyword;
+use cert_text::{CertReadFault, Closed, Lines, placed};
+use cert_value::{Keyword, YesBody};
 use std::alloc::Global;
 
 /// Reads the first line.
@@ -77,6 +77,20 @@ fn delayed(alloc: Global, lines: &mut Lines<'_, Proof>) -> Result<ProofBody, Cer
     }
 }
 
+/// The closed list, as the body of a yes without a step in its logs.
+fn without_logs(alloc: Global, closed: Closed) -> YesBody
+    ensures { result ≡ without_logs closed }
+{
+    YesBody {
+        first: List::new(alloc),
+        second: List::new(alloc),
+        order: closed.order,
+        elements: closed.elements,
+        cover: closed.cover,
+        steps: closed.steps,
+    }
+}
+
 /// Reads a yes by a closed list of elements.
 fn closed(alloc: Global, lines: &mut Lines<'_, Proof>) -> Result<ProofBody, CertReadFault>
     requires few { past lines.old < 2 ^ 32 }
@@ -84,7 +98,10 @@ fn closed(alloc: Global, lines: &mut Lines<'_, Proof>) -> Result<ProofBody, Cert
 {
     let front = front(alloc, lines)?;
     match lines.closed(alloc, 2, Mode::Buchi) {
-        Ok(closed) => Ok(ProofBody::Yes(front, Evidence::Closed(closed))),
+        Ok(closed) => {
+            let list = without_logs(alloc, closed);
+            Ok(ProofBody::Yes(front, Evidence::Closed(list)))
+        }
         Err(fault) => {
             drop(front);
             Err(fault)

@@ -1,8 +1,7 @@
 //! A proof as a value.
 
 use auto_core::{Lasso, List};
-use cert_text::Closed;
-use cert_value::{FirstStep, RankBlock, SecondStep};
+use cert_value::{FirstStep, RankBlock, SecondStep, YesBody};
 
 /// A proof as a file has it.
 #[derive(Debug, Drop)]
@@ -62,6 +61,6 @@ pub enum Evidence {
     /// The pairs of a delayed simulation across, each with its code: 0 without a rank, and
     /// otherwise the rank plus 1.
     Delayed(RankBlock),
-    /// A closed list of elements.
-    Closed(Closed),
+    /// A closed list of elements: the body of a certificate's yes without a step in its logs.
+    Closed(YesBody),
 }

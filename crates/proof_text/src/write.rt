@@ -8,8 +8,10 @@ ghost use Rattle.proof_text.specs.ProofText.{proof_heading, class_lines, front_l
 use crate::heading::form_word;
 use crate::types::{Evidence, Front, Proof, ProofBody, ProofForm};
 use auto_core::{Lasso, List, Memory};
-use cert_text::{Closed, print_elements, print_first_log, print_second_log};
-use cert_value::{Keyword, Print, RankRow, print_all, print_count, print_keyword, print_line};
+use cert_text::{print_elements, print_first_log, print_second_log};
+use cert_value::{
+    Keyword, Print, RankRow, YesBody, print_all, print_count, print_keyword, print_line,
+};
 use std::alloc::Global;
 
 /// Which form the body has.
@@ -80,7 +82,7 @@ fn print_pairs(out: &mut List<u8>, rows: &[RankRow]) -> Result<(), Memory>
 }
 
 /// Writes a closed list of elements.
-fn print_closed(out: &mut List<u8>, closed: &Closed) -> Result<(), Memory>
+fn print_closed(out: &mut List<u8>, closed: &YesBody) -> Result<(), Memory>
     ensures { OnOk result
         (out.new ≡ out.old ++ text_of (evidence_lines (evidence.Closed closed.now))) }
 {

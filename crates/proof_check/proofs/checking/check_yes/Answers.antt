@@ -14,7 +14,7 @@ pub returns-in_err-ends : goal.returns-in_err-ends
 returns-in_err-ends c =
     let pair = c.args.pair.now in
     let front = c.args.front.now in
-    let e = c.args.evidence in
+    let e = c.args.evidence.now in
     let p = err_from_is_err_and c.from_residual.result c.from_residual.ensures.1 in
     rw (p.1, p.2)
     (told_err (both_become pair.first pair.second front) (λ (ends : Ends). checked (evidence_checks ends.first ends.second (evidence_item front) e)) c.in_err-ends.field-0.0 c.in_err-ends.ensures)
@@ -23,7 +23,7 @@ pub returns : goal.returns
 returns c =
     let pair = c.args.pair.now in
     let front = c.args.front.now in
-    let e = c.args.evidence in
+    let e = c.args.evidence.now in
     let ends = c.in_ok-ends.ends in
     let r = c.check_evidence.result in
     let first = subst (λ (l : List FirstStep). Tells (evidence_checks ends.first ends.second (4 + (length c.as_slice.result.now + length l)) e) r) c.as_slice-2.ensures c.check_evidence.ensures in
